@@ -1,0 +1,14 @@
+-- Laws, in reading order: search, masks, the field of a degree, the order of two, the tables.
+pub mod Search
+pub mod Xor
+pub mod Horner
+pub mod Product
+pub mod Remainder
+pub mod Pigeonhole
+pub mod Primitive
+pub mod Elements
+pub mod Value
+pub mod Numbers
+pub mod Shifts
+pub mod OrderOfTwo
+pub mod Fill

@@ -1,0 +1,24 @@
+-- Search through numbers.
+--
+--   least test n     the least number below n that passes the test; n if none does
+--   upTo n           the numbers below n, rising
+--   keep test l      those of l that pass the test, in their order
+use mathlib.Core.Bool.{Bool, true, false}
+use mathlib.Core.List.{List, [], _∷_, _++_}
+use Prim.Native.Nat.{ℕ, zero, suc}
+
+-- of the n numbers from i on
+unfoldable pub leastFrom : (ℕ → Bool) → ℕ → ℕ → ℕ
+leastFrom test zero i = i
+leastFrom test (suc n) i = elim (test i) [ true ↦ i | false ↦ leastFrom test n (suc i) ]
+
+unfoldable pub least : (ℕ → Bool) → ℕ → ℕ
+least test n = leastFrom test n 0
+
+unfoldable pub upTo : ℕ → List ℕ
+upTo zero = []
+upTo (suc n) = upTo n ++ (n ∷ [])
+
+unfoldable pub keep : (ℕ → Bool) → List ℕ → List ℕ
+keep test [] = []
+keep test (x ∷ l) = elim (test x) [ true ↦ x ∷ keep test l | false ↦ keep test l ]

@@ -1,0 +1,96 @@
+// Products, powers, inverses and quotients of elements, by shifts and masks alone.
+ghost use mathlib.Core.Path.{_≡_};
+ghost use Prim.Native.Nat.{_+_, _-_, _*_, _/_, _%_, _^_, _<_, _≤_};
+ghost use Rattle.field.specs.Field.{Degree, «mask» as maskOf, ω, fieldMultiply, fieldPower, inverses, quotients, valuesOf};
+use crate::types::Quotient;
+
+// Document 01's table, indexed by degree from 2 on.
+const MASKS: [u16; 11] = [7, 11, 19, 37, 67, 131, 285, 529, 1033, 2053, 4179];
+
+pub fn mask(s: usize) -> u16
+    requires { ⌜ Degree s ⌝ }
+    ensures { λ r. ⌜ r ≡ maskOf s ⌝ }
+{
+    MASKS[s - 2]
+}
+
+// How many elements are not 0: the order of ω.
+pub fn order(s: usize) -> usize
+    requires { ⌜ Degree s ⌝ }
+    ensures { λ r. ⌜ r ≡ 2 ^ s - 1 ⌝ }
+{
+    let end: usize = 1 << s;
+    end - 1
+}
+
+// ω a: one shift, and the mask m of the degree taken off where the coefficient of x^s came up.
+pub fn double(s: usize, m: u16, a: u16) -> u16
+    requires { ⌜ Degree s × (m ≡ maskOf s) × (a < 2 ^ s) ⌝ }
+    ensures { λ r. ⌜ r ≡ fieldMultiply s ω a ⌝ }
+{
+    let d = a * 2;
+    if (d >> s) % 2 == 1 { d ^ m } else { d }
+}
+
+// a b by Horner's rule over the coefficients of a, from the highest down.
+pub fn multiply(s: usize, a: u16, b: u16) -> u16
+    requires { ⌜ Degree s × (a < 2 ^ s) × (b < 2 ^ s) ⌝ }
+    ensures { λ r. ⌜ r ≡ fieldMultiply s a b ⌝ }
+{
+    let m = mask(s);
+    let mut r = 0u16;
+    let mut i = s;
+    while i > 0 {
+        i = i - 1;
+        r = double(s, m, r);
+        if (a >> i) % 2 == 1 {
+            r = r ^ b;
+        }
+    }
+    r
+}
+
+// r x where e is odd, and else r: the factor that e's lowest digit asks for.
+fn with_factor(s: usize, r: u16, x: u16, e: usize) -> u16
+    requires { ⌜ Degree s × (r < 2 ^ s) × (x < 2 ^ s) ⌝ }
+    ensures { λ y. ⌜ y ≡ fieldMultiply s r (fieldPower s x (e % 2)) ⌝ }
+{
+    if e % 2 == 1 { multiply(s, r, x) } else { r }
+}
+
+// a^k by squaring: r x^e stays what is asked for.
+pub fn power(s: usize, a: u16, k: usize) -> u16
+    requires { ⌜ Degree s × (a < 2 ^ s) ⌝ }
+    ensures { λ r. ⌜ r ≡ fieldPower s a k ⌝ }
+{
+    let mut r = 1u16;
+    let mut x = a;
+    let mut e = k;
+    while e > 0 {
+        r = with_factor(s, r, x, e);
+        x = multiply(s, x, x);
+        e = e / 2;
+    }
+    r
+}
+
+// The inverse is a^(2^s - 2), since a^(2^s - 1) = 1 for every element but 0.
+pub fn inverse(s: usize, a: u16) -> Quotient
+    requires { ⌜ Degree s × (a < 2 ^ s) ⌝ }
+    ensures { λ r. ⌜ valuesOf r ≡ inverses s a ⌝ }
+{
+    if a == 0 {
+        return Quotient::Absent;
+    }
+    Quotient::Of(power(s, a, order(s) - 1))
+}
+
+pub fn divide(s: usize, a: u16, b: u16) -> Quotient
+    requires { ⌜ Degree s × (a < 2 ^ s) × (b < 2 ^ s) ⌝ }
+    ensures { λ r. ⌜ valuesOf r ≡ quotients s a b ⌝ }
+{
+    let Quotient::Of(x) = inverse(s, b) else {
+        return Quotient::Absent;
+    };
+    Quotient::Of(multiply(s, a, x))
+}

@@ -21,9 +21,11 @@ use Rattle.algebra.proofs.Power.{pow, pow-z}
 use Rattle.algebra.proofs.Field.{Field}
 use Rattle.algebra.proofs.Lists.{All, none, more, all-map, Distinct, d-nil, d-cons, prod, sumL}
 use Rattle.algebra.proofs.Coprime.{Sub, has-zero, has-prod, Divides, Coprime}
-use Rattle.algebra.proofs.Coprime.{coprime-one, coprime-sym, coprime-add, coprime-unit-mul, coprime-mul, coprime-prod, coprime-unit}
+use Rattle.algebra.proofs.Coprime.{coprime-one, coprime-sym, coprime-add, coprime-unit-mul, coprime-mul, coprime-prod}
+use Rattle.algebra.proofs.Coprime.{coprime-unit}
 use Rattle.algebra.proofs.Series.{Ser, const, add-at, zero-at, one-is, mul-z, const-mul-at, const-const}
-use Rattle.algebra.proofs.Poly.{Below, Below·weaken, Below·const, Below·one, Below·zero, Below·add, Below·deg, Above, Above·mul, below-above}
+use Rattle.algebra.proofs.Poly.{Below, Below·weaken, Below·const, Below·one, Below·zero, Below·add, Below·deg, Above}
+use Rattle.algebra.proofs.Poly.{Above·mul, below-above}
 use Rattle.algebra.proofs.Poly.{le-or-lt, IsPoly, Polys, is-poly, const-poly}
 use Rattle.algebra.proofs.Divide.{Deg, unit-degree}
 use Rattle.algebra.proofs.Substitute.{sub, sub-at, sub-below, sub-poly, sub-deg, sub-mul, sub-coprime}

@@ -17,7 +17,8 @@ use Rattle.algebra.proofs.Ring.{Ring, ring, mul-zero, zero-mul, eq-of-a
 use Rattle.algebra.proofs.Field.{Field, cancel, mul-ne}
 use Rattle.algebra.proofs.Coprime.{Divides, has-zero}
 use Rattle.algebra.proofs.Series.{Ser, const, add-at, zero-at, one-is}
-use Rattle.algebra.proofs.Poly.{Below, Below·weaken, Below·drop, Below·one, Below·zero, Below·add, Below·deg, below-0, below-1}
+use Rattle.algebra.proofs.Poly.{Below, Below·weaken, Below·drop, Below·one, Below·zero, Below·add, Below·deg, below-0}
+use Rattle.algebra.proofs.Poly.{below-1}
 use Rattle.algebra.proofs.Poly.{le-or-lt, mul-top, IsPoly, Polys, mono, mono-below, mono-top}
 
 module _ {A : Type 0} (R : Ring A) where

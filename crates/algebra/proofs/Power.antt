@@ -9,7 +9,8 @@
 use mathlib.Core.Path.{_≡_, refl, sym, ap, _∙_}
 use mathlib.Core.Logic.{_≢_, _↔_}
 use Prim.Native.Nat.{ℕ, zero, suc, _+_, _-_, _*_, _/_, _%_, _<_}
-use native.Mathlib.Nat.{zero-add as zero-addℕ, suc-add as suc-addℕ, mul-suc, mul-zero as mul-zeroℕ, mod-lt, mod-add-div, mul-comm as mul-commℕ, mul-lt-mul-of-pos-left, mul-pos}
+use native.Mathlib.Nat.{zero-add as zero-addℕ, suc-add as suc-addℕ, mul-suc, mul-zero as mul-zeroℕ, mod-lt, mod-add-div}
+use native.Mathlib.Nat.{mul-comm as mul-commℕ, mul-lt-mul-of-pos-left, mul-pos}
 use native.Mathlib.Decide.{decLt}
 use native.Mathlib.Omega.{arith}
 use Rattle.algebra.proofs.Ring.{Ring, ring, one-mul, mul-one, mul-comm, mul-assoc}

@@ -23,7 +23,8 @@ use Rattle.field.specs.Mask.{_⊕_, clmul, remainder}
 use Rattle.field.specs.Field.{mask, Degree, ω, fieldMultiply}
 use Rattle.field.proofs.Xor.{⊕-zero-r, ⊕-self, ⊕-comm, ⊕-assoc, ⊕-lt}
 use Rattle.field.proofs.Product.{clmul-add-r, clmul-dbl-r, clmul-one-r, clmul-comm, clmul-assoc}
-use Rattle.field.proofs.Remainder.{xtime, remainder-lt, remainder-small, remainder-add, remainder-zero, remainder-dbl, remainder-mul-l, remainder-mul-r}
+use Rattle.field.proofs.Remainder.{xtime, remainder-lt, remainder-small, remainder-add, remainder-zero, remainder-dbl}
+use Rattle.field.proofs.Remainder.{remainder-mul-l, remainder-mul-r}
 use Rattle.field.proofs.Pigeonhole.{onto}
 use Rattle.field.proofs.Primitive.{xpow, Primitive, primitive, Degree-bounds}
 
@@ -78,7 +79,8 @@ module _ {s : ℕ} (d : Degree s) where
   unfolding mulF el
   mulF-assoc a b c =
       F-eq s
-      (remainder-mul-l s (mask s) pos deg (clmul (a .0) (b .0)) (c .0) ∙ ap (remainder s (mask s)) (clmul-assoc (a .0) (b .0) (c .0))
+      (remainder-mul-l s (mask s) pos deg (clmul (a .0) (b .0)) (c .0)
+      ∙ ap (remainder s (mask s)) (clmul-assoc (a .0) (b .0) (c .0))
       ∙ sym (remainder-mul-r s (mask s) pos deg (a .0) (clmul (b .0) (c .0))))
 
   mulF-comm : (a b : F s) → mulF a b ≡ mulF b a
@@ -165,7 +167,8 @@ module _ {s : ℕ} (d : Degree s) where
       F-eq s
       (small (remainder-lt s (mask s) pos deg (clmul a b))
       ∙ sym
-      (GF-mul (el a) (el b) ∙ remainder-mul-l s (mask s) pos deg a (remainder s (mask s) b) ∙ remainder-mul-r s (mask s) pos deg a b))
+      (GF-mul (el a) (el b) ∙ remainder-mul-l s (mask s) pos deg a (remainder s (mask s) b)
+      ∙ remainder-mul-r s (mask s) pos deg a b))
 
   -- ---- ω
   unfoldable pub gen : F s

@@ -19,7 +19,8 @@ use lib.Seq.{getD-set-same, getD-set-other}
 use Rattle.field.specs.Field.{Degree, ω, fieldMultiply, fieldPower, logarithm}
 use Rattle.field.specs.Tables.{Room, Powers, Logs, Tables, Filled}
 use Rattle.field.proofs.Primitive.{Degree-bounds}
-use Rattle.field.proofs.Numbers.{power-z, power-s, power-lt, power-add, power-round, power-inj, power-onto, power-ne, logarithm-of, logarithm-lt, logarithm-is, logarithm-zero, multiply-zero, zero-multiply}
+use Rattle.field.proofs.Numbers.{power-z, power-s, power-lt, power-add, power-round, power-inj, power-onto, power-ne}
+use Rattle.field.proofs.Numbers.{logarithm-of, logarithm-lt, logarithm-is, logarithm-zero, multiply-zero, zero-multiply}
 
 pub powers-none : {s : ℕ} {e : List ℕ} → Powers s 0 e
 powers-none = record { at = λ k h. absurd (omega arith) }

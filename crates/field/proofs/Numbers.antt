@@ -24,7 +24,8 @@ use Rattle.field.specs.Field.{mask, Degree, ω, fieldMultiply, fieldPowe
 use Rattle.field.proofs.Search.{Least, least-is, least-unique, keep-one, keep-none}
 use Rattle.field.proofs.Remainder.{remainder-lt}
 use Rattle.field.proofs.Primitive.{primitive, Degree-bounds}
-use Rattle.field.proofs.Elements.{F, F-eq, GF, GF-zero, GF-one, el, el-value, el-of, el-inj, el-zero, el-one, el-mul, gen, gen-order, log, mul-inverse, isField}
+use Rattle.field.proofs.Elements.{F, F-eq, GF, GF-zero, GF-one, el, el-value, el-of, el-inj, el-zero, el-one, el-mul, gen}
+use Rattle.field.proofs.Elements.{gen-order, log, mul-inverse, isField}
 
 pub power-z : (s a : ℕ) → fieldPower s a 0 ≡ 1
 unfolding fieldPower
@@ -128,13 +129,16 @@ module _ {s : ℕ} (d : Degree s) where
       least-unique (is-log (fieldPower s ω k))
       (record {
         le = omega arith;
-        before = λ j l. ne-eqb (fieldPower s ω j) (fieldPower s ω k) (λ e. let q : j ≡ k = power-inj j k (omega arith) h e in omega arith);
+        before =
+            λ j l. ne-eqb (fieldPower s ω j) (fieldPower s ω k) (λ e. let q : j ≡ k = power-inj j k (omega arith) h e in
+            omega arith);
         passes = λ l. eq-eqb (fieldPower s ω k) (fieldPower s ω k) refl;
       })
 
   pub logarithm-lt : (a : ℕ) → a < 2 ^ s → a ≢ 0 → logarithm s a < 2 ^ s - 1
   logarithm-lt a h n =
-      let l = power-onto a h n in subst (λ (k : ℕ). k < 2 ^ s - 1) (sym (logarithm-of (l .0) (l .1)) ∙ ap (logarithm s) (l .2)) (l .1)
+      let l = power-onto a h n in
+      subst (λ (k : ℕ). k < 2 ^ s - 1) (sym (logarithm-of (l .0) (l .1)) ∙ ap (logarithm s) (l .2)) (l .1)
 
   pub logarithm-is : (a : ℕ) → a < 2 ^ s → a ≢ 0 → fieldPower s ω (logarithm s a) ≡ a
   logarithm-is a h n = eqb-true (fieldPower s ω (logarithm s a)) a (is-log a .passes (logarithm-lt a h n))

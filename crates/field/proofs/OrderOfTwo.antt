@@ -9,7 +9,9 @@ use mathlib.Core.Path.{_≡_, refl, sym, ap, ap₂, _∙_, subst}
 use mathlib.Core.Logic.{_≢_, _↔_}
 use mathlib.Core.Bool.{Bool, true}
 use Prim.Native.Nat.{ℕ, zero, suc, pred, _+_, _-_, _*_, _/_, _%_, _^_, _≤_, _<_, _∣_}
-use native.Mathlib.Nat.{mod-lt, mod-eq-of-lt, mod-add-div, add-mul, add-mul-mod-self-left, mul-assoc, mul-comm, mul-add-mod-self-left, mul-mod-right, div-add-mod, dvd-of-mod-eq-zero, pow-suc, mod-eq-sub-mod, zero-mod, one-mul}
+use native.Mathlib.Nat.{mod-lt, mod-eq-of-lt, mod-add-div, add-mul, add-mul-mod-self-left, mul-assoc, mul-comm}
+use native.Mathlib.Nat.{mul-add-mod-self-left, mul-mod-right, div-add-mod, dvd-of-mod-eq-zero, pow-suc, mod-eq-sub-mod, zero-mod}
+use native.Mathlib.Nat.{one-mul}
 use native.Mathlib.Decide.{decLt}
 use native.Mathlib.Numerals.{add-one}
 use native.Mathlib.Omega.{arith}
@@ -24,7 +26,8 @@ use Rattle.field.proofs.Pigeonhole.{collision}
 pub mul-mod : (a b n : ℕ) → a % n * b % n ≡ a * b % n
 mul-mod a b n =
     sym
-    (ap (λ (x : ℕ). x * b % n) (sym (mod-add-div a n)) ∙ ap (λ (x : ℕ). x % n) (add-mul (a % n) (n * (a / n)) b ∙ ap (λ (x : ℕ). a % n * b + x) (mul-assoc n (a / n) b))
+    (ap (λ (x : ℕ). x * b % n) (sym (mod-add-div a n))
+    ∙ ap (λ (x : ℕ). x % n) (add-mul (a % n) (n * (a / n)) b ∙ ap (λ (x : ℕ). a % n * b + x) (mul-assoc n (a / n) b))
     ∙ add-mul-mod-self-left (a % n * b) n (a / n * b))
 
 module _ {n : ℕ} (o : OddLength n) where

@@ -36,7 +36,8 @@ out-lt v x n h k l = go (out-cases v x h)
 out-inj : (v x y : ℕ) → x ≢ v → y ≢ v → out v x ≡ out v y → x ≡ y
 out-inj v x y h k e = go (out-cases v x h) (out-cases v y k)
   where
-    go : ((v < x) × (out v x ≡ pred x)) ⊎ ((x < v) × (out v x ≡ x)) → ((v < y) × (out v y ≡ pred y)) ⊎ ((y < v) × (out v y ≡ y)) → x ≡ y
+    go : ((v < x) × (out v x ≡ pred x)) ⊎ ((x < v) × (out v x ≡ x)) → ((v < y) × (out v y ≡ pred y)) ⊎ ((y < v) × (out v y ≡ y))
+        → x ≡ y
     go (inl c) (inl d) = omega arith
     go (inl c) (inr d) = omega arith
     go (inr c) (inl d) = omega arith
@@ -45,7 +46,8 @@ out-inj v x y h k e = go (out-cases v x h) (out-cases v y k)
 pub pigeonhole : (n : ℕ) (f : ℕ → ℕ) → ((i : ℕ) → i < suc n → f i < n) → InjOn f (suc n) → ⊥
 pigeonhole zero f b inj = not-suc-le-zero (b 0 (zero-lt-suc 0))
 pigeonhole (suc n) f b inj =
-    pigeonhole n (λ i. out (f (suc n)) (f i)) (λ i h. out-lt (f (suc n)) (f i) n (other i h) (omega (arith, b (suc n) (omega arith))) (b i (omega arith)))
+    pigeonhole n (λ i. out (f (suc n)) (f i))
+    (λ i h. out-lt (f (suc n)) (f i) n (other i h) (omega (arith, b (suc n) (omega arith))) (b i (omega arith)))
     (λ i j hi hj e. inj i j (omega arith) (omega arith) (out-inj (f (suc n)) (f i) (f j) (other i hi) (other j hj) e))
   where
     other : (i : ℕ) → i < suc n → f i ≢ f (suc n)
@@ -56,7 +58,8 @@ find : (n : ℕ) (f : ℕ → ℕ) (y : ℕ) → ((i : ℕ) × (i < n) × (f i �
 find zero f y = inr (λ i h e. not-suc-le-zero h)
 find (suc n) f y = go (find n f y) (ℕ-discrete (f n) y)
   where
-    go : ((i : ℕ) × (i < n) × (f i ≡ y)) ⊎ ((i : ℕ) → i < n → f i ≢ y) → Dec (f n ≡ y) → ((i : ℕ) × (i < suc n) × (f i ≡ y)) ⊎ ((i : ℕ) → i < suc n → f i ≢ y)
+    go : ((i : ℕ) × (i < n) × (f i ≡ y)) ⊎ ((i : ℕ) → i < n → f i ≢ y) → Dec (f n ≡ y)
+        → ((i : ℕ) × (i < suc n) × (f i ≡ y)) ⊎ ((i : ℕ) → i < suc n → f i ≢ y)
     go (inl c) d = inl (c .0, omega arith, c .2)
     go (inr c) (yes e) = inl (n, omega arith, e)
     go (inr c) (no k) = inr (λ i h e. last i h e (ℕ-discrete i n))
@@ -80,7 +83,8 @@ apart : (f : ℕ → ℕ) (n : ℕ) → ((i : ℕ) × (j : ℕ) × (j < i) × (i
 apart f zero = inr (λ i j hi hj e. absurd (not-suc-le-zero hi))
 apart f (suc n) = go (apart f n) (find n f (f n))
   where
-    go : ((i : ℕ) × (j : ℕ) × (j < i) × (i < n) × (f j ≡ f i)) ⊎ InjOn f n → ((j : ℕ) × (j < n) × (f j ≡ f n)) ⊎ ((j : ℕ) → j < n → f j ≢ f n)
+    go : ((i : ℕ) × (j : ℕ) × (j < i) × (i < n) × (f j ≡ f i)) ⊎ InjOn f n
+        → ((j : ℕ) × (j < n) × (f j ≡ f n)) ⊎ ((j : ℕ) → j < n → f j ≢ f n)
         → ((i : ℕ) × (j : ℕ) × (j < i) × (i < suc n) × (f j ≡ f i)) ⊎ InjOn f (suc n)
     go (inl c) d = inl (c .0, c .1, c .2, omega (arith, c .3), c .4)
     go (inr c) (inl d) = inl (n, d .0, d .1, omega arith, d .2)

@@ -15,7 +15,8 @@ use borrow.Author.Tests.{ltb-true}
 use Rattle.field.specs.Mask.{_⊕_, coefficient, size, productBelow, clmul}
 use Rattle.field.proofs.Search.{Least, least-is}
 use Rattle.field.proofs.Xor.{two-pos, digit, digit-lt, ⊕-zero-l, ⊕-assoc, ⊕-norm, Add, add-0, dbl-add, sel}
-use Rattle.field.proofs.Horner.{horner, lin-ext, horner-0, horner-step, horner-add, horner-dbl, horner-1, horner-map, horner-vec}
+use Rattle.field.proofs.Horner.{horner, lin-ext, horner-0, horner-step, horner-add, horner-dbl, horner-1, horner-map}
+use Rattle.field.proofs.Horner.{horner-vec}
 
 lt-pow : (a : ℕ) → a < 2 ^ a
 lt-pow zero = pow-pos 0
@@ -50,7 +51,8 @@ product-step (suc n) a b =
     let c : ℕ = coefficient n (a / 2) in
     let p : ℕ = productBelow n (a / 2) b in
     let shift : c * (b * 2 ^ suc n) ≡ c * (b * 2 ^ n) * 2 =
-    ap (λ (y : ℕ). c * (b * y)) (pow-suc 2 n) ∙ ap (λ (y : ℕ). c * y) (sym (mul-assoc b (2 ^ n) 2)) ∙ sym (mul-assoc c (b * 2 ^ n) 2) in
+    ap (λ (y : ℕ). c * (b * y)) (pow-suc 2 n) ∙ ap (λ (y : ℕ). c * y) (sym (mul-assoc b (2 ^ n) 2))
+    ∙ sym (mul-assoc c (b * 2 ^ n) 2) in
     ap₂ _⊕_ (product-step n a b) (ap (λ (x : ℕ). x * (b * 2 ^ suc n)) (coefficient-suc n a) ∙ shift)
     ∙ sort (p * 2) (sel (a % 2) b) (c * (b * 2 ^ n) * 2) ∙ ap (λ (y : ℕ). y ⊕ sel (a % 2) b) (sym (dbl-add p (c * (b * 2 ^ n))))
   where

@@ -8,14 +8,18 @@
 --   remainder-add, remainder-zero, remainder-small, remainder-dbl, remainder-multiple, remainder-mul-l, remainder-mul-r
 use mathlib.Core.Path.{_≡_, refl, sym, ap, ap₂, _∙_, subst}
 use Prim.Native.Nat.{ℕ, zero, suc, _+_, _*_, _/_, _%_, _^_, _≤_, _<_}
-use native.Mathlib.Nat.{div-eq-of-lt-le, div-lt-iff-lt-mul, div-eq-of-lt, mod-eq-of-lt, zero-div, one-mul, mul-assoc, le-refl, lt-of-lt-of-le, not-suc-le-zero, pow-succ', div-div-eq-div-mul, div-mul-le-self, lt-of-le-of-lt, div-le-self, add-suc, mul-div-cancel}
+use native.Mathlib.Nat.{div-eq-of-lt-le, div-lt-iff-lt-mul, div-eq-of-lt, mod-eq-of-lt, zero-div, one-mul, mul-assoc, le-refl}
+use native.Mathlib.Nat.{lt-of-lt-of-le, not-suc-le-zero, pow-succ', div-div-eq-div-mul, div-mul-le-self, lt-of-le-of-lt}
+use native.Mathlib.Nat.{div-le-self, add-suc, mul-div-cancel}
 use native.Mathlib.Omega.{arith}
 use lib.Arith.{bin-ind}
 use lib.Pow.{pow-pos, pow-mono, pow-add, shr-shr, shl-shr}
 use Rattle.field.specs.Mask.{_⊕_, coefficient, size, clmul, divideDown, remainder}
-use Rattle.field.proofs.Xor.{two-pos, digit, digit-lt, ⊕-zero-l, ⊕-zero-r, ⊕-self, ⊕-norm, ⊕-half, ⊕-odd, ⊕-shr, ⊕-lt, ⊕-split, ⊕-swap4, Add, add-0, dbl-half, dbl-add, sel, sel-xor, sel-map, sel-one}
+use Rattle.field.proofs.Xor.{two-pos, digit, digit-lt, ⊕-zero-l, ⊕-zero-r, ⊕-self, ⊕-norm, ⊕-half, ⊕-odd, ⊕-shr, ⊕-lt}
+use Rattle.field.proofs.Xor.{⊕-split, ⊕-swap4, Add, add-0, dbl-half, dbl-add, sel, sel-xor, sel-map, sel-one}
 use Rattle.field.proofs.Horner.{horner, horner-step, horner-add, horner-dbl, horner-1, horner-map, horner-vec}
-use Rattle.field.proofs.Product.{size-lt, dbl, digit-mul, clmul-horner, clmul-add-r, clmul-dbl-r, clmul-one-r, clmul-comm, clmul-zero-r, clmul-pow}
+use Rattle.field.proofs.Product.{size-lt, dbl, digit-mul, clmul-horner, clmul-add-r, clmul-dbl-r, clmul-one-r, clmul-comm}
+use Rattle.field.proofs.Product.{clmul-zero-r, clmul-pow}
 
 -- one shift, and p taken off where the coefficient of x^s came up
 unfoldable pub xtime : ℕ → ℕ → ℕ → ℕ
@@ -128,7 +132,8 @@ module _ (s p : ℕ) (pos : 0 < s) (deg : p / 2 ^ s ≡ 1) where
       ∙ ap (λ (x : ℕ). c ⊕ x)
       (ap (λ (x : ℕ). x / 2 ^ (s + i)) (digit-mul (p * 2 ^ i) (c % 2) (digit-lt c))
       ∙ sel-map (λ x. x / 2 ^ (s + i)) (zero-div (2 ^ (s + i))) (c % 2) (p * 2 ^ i)
-      ∙ ap₂ sel (mod-eq-of-lt c-lt) (ap (λ (k : ℕ). p * 2 ^ i / 2 ^ k) swap ∙ sym (shr-shr (p * 2 ^ i) i s) ∙ ap (λ (x : ℕ). x / 2 ^ s) (shl-shr p i) ∙ deg)
+      ∙ ap₂ sel (mod-eq-of-lt c-lt)
+      (ap (λ (k : ℕ). p * 2 ^ i / 2 ^ k) swap ∙ sym (shr-shr (p * 2 ^ i) i s) ∙ ap (λ (x : ℕ). x / 2 ^ s) (shl-shr p i) ∙ deg)
       ∙ sel-one c c-lt)
       ∙ ⊕-self c)
     where
@@ -139,7 +144,9 @@ module _ (s p : ℕ) (pos : 0 < s) (deg : p / 2 ^ s ≡ 1) where
       swap = omega arith
 
       c-lt : c < 2
-      c-lt = div-lt-iff-lt-mul (pow-pos (s + i)) .1 (subst (λ (x : ℕ). a < x) (ap (λ (k : ℕ). 2 ^ k) (add-suc s i) ∙ pow-succ' 2 (s + i)) h)
+      c-lt =
+          div-lt-iff-lt-mul (pow-pos (s + i)) .1
+          (subst (λ (x : ℕ). a < x) (ap (λ (k : ℕ). 2 ^ k) (add-suc s i) ∙ pow-succ' 2 (s + i)) h)
 
   record Division (a r : ℕ) : Type 0 where
     quo : ℕ
@@ -157,17 +164,20 @@ module _ (s p : ℕ) (pos : 0 < s) (deg : p / 2 ^ s ≡ 1) where
       record {
         quo = d .quo ⊕ c * 2 ^ i;
         eq = put a (c * (p * 2 ^ i)) (clmul p (d .quo)) (divideDown s p i (a ⊕ c * (p * 2 ^ i))) (d .eq)
-            ∙ ap (λ (x : ℕ). clmul p (d .quo) ⊕ x ⊕ divideDown s p i (a ⊕ c * (p * 2 ^ i))) (shifted i c (digit-lt (a / 2 ^ (s + i))))
+            ∙ ap (λ (x : ℕ). clmul p (d .quo) ⊕ x ⊕ divideDown s p i (a ⊕ c * (p * 2 ^ i)))
+            (shifted i c (digit-lt (a / 2 ^ (s + i))))
             ∙ ap (λ (x : ℕ). x ⊕ divideDown s p i (a ⊕ c * (p * 2 ^ i))) (sym (clmul-add-r p (d .quo) (c * 2 ^ i)));
         small = d .small;
       }
     where
       put : (a m q r : ℕ) → a ⊕ m ≡ q ⊕ r → a ≡ q ⊕ m ⊕ r
-      put a m q r e = let f : a ≡ a ⊕ m ⊕ m = simp ⊕-norm in let g : q ⊕ r ⊕ m ≡ q ⊕ m ⊕ r = simp ⊕-norm in f ∙ ap (λ (x : ℕ). x ⊕ m) e ∙ g
+      put a m q r e =
+          let f : a ≡ a ⊕ m ⊕ m = simp ⊕-norm in let g : q ⊕ r ⊕ m ≡ q ⊕ m ⊕ r = simp ⊕-norm in f ∙ ap (λ (x : ℕ). x ⊕ m) e ∙ g
 
       shifted : (i c : ℕ) → c < 2 → c * (p * 2 ^ i) ≡ clmul p (c * 2 ^ i)
       shifted i c l =
-          digit-mul (p * 2 ^ i) c l ∙ sym (ap (clmul p) (digit-mul (2 ^ i) c l) ∙ sel-map (clmul p) (clmul-zero-r p) c (2 ^ i) ∙ ap (sel c) (clmul-pow p i))
+          digit-mul (p * 2 ^ i) c l
+          ∙ sym (ap (clmul p) (digit-mul (2 ^ i) c l) ∙ sel-map (clmul p) (clmul-zero-r p) c (2 ^ i) ∙ ap (sel c) (clmul-pow p i))
 
   whole : (a : ℕ) → Division a (remainder s p a)
   unfolding remainder

@@ -24,7 +24,8 @@ use Rattle.field.proofs.Product.{clmul-two}
 use Rattle.field.proofs.Remainder.{xtime, xtime-add, remainder-small, remainder-dbl, remainder-clmul}
 use Rattle.field.proofs.Primitive.{primitive}
 use Rattle.field.proofs.Elements.{GF, el, el-mul, el-inj}
-use Rattle.field.proofs.Numbers.{multiply-lt, multiply-comm, multiply-assoc, multiply-one, zero-multiply, power-lt, power-add, el-power, power-s, power-z, inverses-zero, inverses-of}
+use Rattle.field.proofs.Numbers.{multiply-lt, multiply-comm, multiply-assoc, multiply-one, zero-multiply, power-lt}
+use Rattle.field.proofs.Numbers.{power-add, el-power, power-s, power-z, inverses-zero, inverses-of}
 
 sel-clear : (x b : ℕ) → x < 2 → x ≢ 1 → sel x b ≡ 0
 sel-clear x b h k = let e : x ≡ 0 = omega arith in ap (λ (y : ℕ). sel y b) e
@@ -69,7 +70,8 @@ module _ {s : ℕ} (d : Degree s) where
   next a b r q i h p e f =
       let k : i ≡ i - 1 + 1 = omega arith in
       ap (λ (x : ℕ). x ⊕ sel (a / 2 ^ (i - 1) % 2) b)
-      (f ∙ ap (fieldMultiply s ω) (e ∙ ap (λ (x : ℕ). fieldMultiply s x b) (ap (λ (j : ℕ). a / 2 ^ j) k ∙ sym (shr-shr a (i - 1) 1))))
+      (f ∙ ap (fieldMultiply s ω)
+      (e ∙ ap (λ (x : ℕ). fieldMultiply s x b) (ap (λ (j : ℕ). a / 2 ^ j) k ∙ sym (shr-shr a (i - 1) 1))))
       ∙ sym (lowest (a / 2 ^ (i - 1)) b h)
 
   pub multiply-set : (a b r q i : ℕ) → b < 2 ^ s → 0 < i → r ≡ fieldMultiply s (a / 2 ^ i) b → q ≡ fieldMultiply s ω r
@@ -81,7 +83,8 @@ module _ {s : ℕ} (d : Degree s) where
       → a / 2 ^ (i - 1) % 2 ≢ 1 → q ≡ fieldMultiply s (a / 2 ^ (i - 1)) b
   multiply-clear a b r q i h p e f t =
       sym
-      (ap (λ (x : ℕ). q ⊕ x) (sel-clear (a / 2 ^ (i - 1) % 2) b (digit-lt (a / 2 ^ (i - 1))) t) ∙ ⊕-zero-r q) ∙ next a b r q i h p e f
+      (ap (λ (x : ℕ). q ⊕ x) (sel-clear (a / 2 ^ (i - 1) % 2) b (digit-lt (a / 2 ^ (i - 1))) t) ∙ ⊕-zero-r q)
+      ∙ next a b r q i h p e f
 
   pub multiply-end : (a b r i : ℕ) → i ≡ 0 → r ≡ fieldMultiply s (a / 2 ^ i) b → r ≡ fieldMultiply s a b
   multiply-end a b r i z e = e ∙ ap (λ (x : ℕ). fieldMultiply s x b) (ap (λ (k : ℕ). a / 2 ^ k) z ∙ div-one a)
@@ -146,5 +149,6 @@ inverse-lt {s} d b x h e = go (ℕ-discrete b 0)
   where
     go : Dec (b ≡ 0) → x < 2 ^ s
     go (yes z) = let n : x ∷ [] ≡ [] = e ∙ sym (inverse-absent d b z) in let o : _≡_ {A = ℕ} 0 1 = cc in absurd (omega arith)
-    go (no k) = let q : x ∷ [] ≡ fieldPower s b (2 ^ s - 2) ∷ [] = e ∙ inverses-of d b h k in let r : x ≡ fieldPower s b (2 ^ s - 2) = cc in
+    go (no k) =
+        let q : x ∷ [] ≡ fieldPower s b (2 ^ s - 2) ∷ [] = e ∙ inverses-of d b h k in let r : x ≡ fieldPower s b (2 ^ s - 2) = cc in
         subst (λ (y : ℕ). y < 2 ^ s) (sym r) (power-lt d b (2 ^ s - 2))

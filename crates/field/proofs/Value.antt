@@ -61,7 +61,8 @@ module _ {A : Type 0} (R : Ring A) where
 
   pub value-dbl : (x : A) (a : ℕ) → value x (a * 2) ≡ value x a ⊠ x
   unfolding coef
-  value-dbl x a = value-step x (a * 2) ∙ ap₂ (λ (n m : ℕ). value x n ⊠ x ⊞ coef m) (dbl-half a) (dbl-odd a) ∙ add-zero (value x a ⊠ x)
+  value-dbl x a =
+      value-step x (a * 2) ∙ ap₂ (λ (n m : ℕ). value x n ⊠ x ⊞ coef m) (dbl-half a) (dbl-odd a) ∙ add-zero (value x a ⊠ x)
 
   pub value-one : (x : A) → value x 1 ≡ 𝟙
   unfolding coef
@@ -75,7 +76,8 @@ module _ {A : Type 0} (R : Ring A) where
       → ((a : ℕ) → f (a * 2) ≡ E (f a)) → ((a : ℕ) → g (a * 2) ≡ E (g a)) → f 0 ≡ g 0 → f 1 ≡ g 1 → (a : ℕ) → f a ≡ g a
   ext E f g fa ga fd gd h0 h1 =
       bin-ind (λ a. f a ≡ g a) h0
-      (λ a ih. ap f (sym (⊕-split a)) ∙ fa (a / 2 * 2) (a % 2) ∙ ap₂ _⊞_ (fd (a / 2) ∙ ap E ih ∙ sym (gd (a / 2))) (digit (λ x. f x ≡ g x) h0 h1 (a % 2) (digit-lt a))
+      (λ a ih. ap f (sym (⊕-split a)) ∙ fa (a / 2 * 2) (a % 2)
+      ∙ ap₂ _⊞_ (fd (a / 2) ∙ ap E ih ∙ sym (gd (a / 2))) (digit (λ x. f x ≡ g x) h0 h1 (a % 2) (digit-lt a))
       ∙ sym (ga (a / 2 * 2) (a % 2)) ∙ ap g (⊕-split a))
 
   three : (a b c : A) → a ⊠ b ⊠ c ≡ a ⊠ c ⊠ b
@@ -89,17 +91,21 @@ module _ {A : Type 0} (R : Ring A) where
 
   pub value-add : (x : A) (a b : ℕ) → value x (a ⊕ b) ≡ value x a ⊞ value x b
   value-add x =
-      bin-ind (λ a. (b : ℕ) → value x (a ⊕ b) ≡ value x a ⊞ value x b) (λ b. ap (value x) (⊕-zero-l b) ∙ sym (ap (λ y. y ⊞ value x b) (value-zero x) ∙ zero-add R (value x b)))
+      bin-ind (λ a. (b : ℕ) → value x (a ⊕ b) ≡ value x a ⊞ value x b)
+      (λ b. ap (value x) (⊕-zero-l b) ∙ sym (ap (λ y. y ⊞ value x b) (value-zero x) ∙ zero-add R (value x b)))
       (λ a ih b. value-step x (a ⊕ b)
-      ∙ ap₂ (λ y z. y ⊠ x ⊞ z) (ap (value x) (⊕-half a b) ∙ ih (b / 2)) (ap coef (⊕-odd a b) ∙ coef-xor (a % 2) (digit-lt a) (b % 2) (digit-lt b))
+      ∙ ap₂ (λ y z. y ⊠ x ⊞ z) (ap (value x) (⊕-half a b) ∙ ih (b / 2))
+      (ap coef (⊕-odd a b) ∙ coef-xor (a % 2) (digit-lt a) (b % 2) (digit-lt b))
       ∙ ap (λ y. y ⊞ (coef (a % 2) ⊞ coef (b % 2))) (add-mul R (value x (a / 2)) (value x (b / 2)) x)
       ∙ swap4 (value x (a / 2) ⊠ x) (value x (b / 2) ⊠ x) (coef (a % 2)) (coef (b % 2))
       ∙ sym (ap₂ _⊞_ (value-step x a) (value-step x b)))
 
   pub value-mul : (x : A) (a b : ℕ) → value x (clmul a b) ≡ value x a ⊠ value x b
   value-mul x a b =
-      ext (λ y. y ⊠ x) (λ a. value x (clmul a b)) (λ a. value x a ⊠ value x b) (λ n m. ap (value x) (clmul-add-l b n m) ∙ value-add x (clmul n b) (clmul m b))
+      ext (λ y. y ⊠ x) (λ a. value x (clmul a b)) (λ a. value x a ⊠ value x b)
+      (λ n m. ap (value x) (clmul-add-l b n m) ∙ value-add x (clmul n b) (clmul m b))
       (λ n m. ap (λ y. y ⊠ value x b) (value-add x n m) ∙ add-mul R (value x n) (value x m) (value x b))
-      (λ n. ap (value x) (clmul-dbl-l n b) ∙ value-dbl x (clmul n b)) (λ n. ap (λ y. y ⊠ value x b) (value-dbl x n) ∙ three (value x n) x (value x b))
+      (λ n. ap (value x) (clmul-dbl-l n b) ∙ value-dbl x (clmul n b))
+      (λ n. ap (λ y. y ⊠ value x b) (value-dbl x n) ∙ three (value x n) x (value x b))
       (ap (value x) (clmul-zero-l b) ∙ value-zero x ∙ sym (ap (λ y. y ⊠ value x b) (value-zero x) ∙ 𝟘-mul R (value x b)))
       (ap (value x) (clmul-one-l b) ∙ sym (ap (λ y. y ⊠ value x b) (value-one x) ∙ one-mul R (value x b))) a

@@ -77,7 +77,8 @@ assoc-digit =
 pub ⊕-assoc : (a b c : ℕ) → (a ⊕ b) ⊕ c ≡ a ⊕ (b ⊕ c)
 ⊕-assoc =
     bin-ind (λ a. (b c : ℕ) → (a ⊕ b) ⊕ c ≡ a ⊕ (b ⊕ c)) (λ b c. ap (λ (x : ℕ). x ⊕ c) (⊕-zero-l b) ∙ sym (⊕-zero-l (b ⊕ c)))
-    (λ a ih b c. by-digit (simp ⊕-half (ih (b / 2) (c / 2))) (simp ⊕-odd (assoc-digit (a % 2) (digit-lt a) (b % 2) (digit-lt b) (c % 2) (digit-lt c))))
+    (λ a ih b c. by-digit (simp ⊕-half (ih (b / 2) (c / 2)))
+    (simp ⊕-odd (assoc-digit (a % 2) (digit-lt a) (b % 2) (digit-lt b) (c % 2) (digit-lt c))))
 
 pub ⊕-left-comm : (a b c : ℕ) → a ⊕ (b ⊕ c) ≡ b ⊕ (a ⊕ c)
 ⊕-left-comm a b c = sym (⊕-assoc a b c) ∙ ap (λ (x : ℕ). x ⊕ c) (⊕-comm a b) ∙ ⊕-assoc b a c
@@ -140,7 +141,9 @@ bit-⊕ i a b = ap (λ (x : ℕ). x % 2) (⊕-shr a b i) ∙ ⊕-odd (a / 2 ^ i)
 zero-bits : (a : ℕ) → ((i : ℕ) → coefficient i a ≡ 0) → a ≡ 0
 zero-bits =
     bin-ind (λ a. ((i : ℕ) → coefficient i a ≡ 0) → a ≡ 0) (λ h. refl)
-    (λ a ih h. by-digit (ih (λ i. ap (λ (x : ℕ). x % 2) (shr-shr a 1 i ∙ ap (λ (k : ℕ). a / 2 ^ k) (one-add i)) ∙ h (suc i))) (ap (λ (x : ℕ). x % 2) (sym (div-one a)) ∙ h 0))
+    (λ a ih h. by-digit (ih (λ i. ap (λ (x : ℕ). x % 2) (shr-shr a 1 i ∙ ap (λ (k : ℕ). a / 2 ^ k) (one-add i)) ∙ h (suc i)))
+    (ap (λ (x : ℕ). x % 2) (sym (div-one a)) ∙ h 0))
 
 pub bit-ext : {a b : ℕ} → ((i : ℕ) → coefficient i a ≡ coefficient i b) → a ≡ b
-bit-ext {a} {b} h = ⊕-eq (zero-bits (a ⊕ b) (λ i. bit-⊕ i a b ∙ ap (λ (x : ℕ). x ⊕ coefficient i b) (h i) ∙ ⊕-self (coefficient i b)))
+bit-ext {a} {b} h =
+    ⊕-eq (zero-bits (a ⊕ b) (λ i. bit-⊕ i a b ∙ ap (λ (x : ℕ). x ⊕ coefficient i b) (h i) ∙ ⊕-self (coefficient i b)))

@@ -80,9 +80,10 @@ pub fn inverse(s: usize, a: u16) -> Quotient
     ensures { λ r. ⌜ valuesOf r ≡ inverses s a ⌝ }
 {
     if a == 0 {
-        return Quotient::Absent;
+        Quotient::Absent
+    } else {
+        Quotient::Of(power(s, a, order(s) - 1))
     }
-    Quotient::Of(power(s, a, order(s) - 1))
 }
 
 pub fn divide(s: usize, a: u16, b: u16) -> Quotient

@@ -19,11 +19,18 @@ returns : tie.Need-returns
 returns c = quotient-absent _ _ _ (sym (ap valuesOf (c .enum-told .given .1)) ∙ c .before .before .inverse .ensures)
 
 multiply-requires : tie.Need-multiply-requires
-multiply-requires c κs = let p = c .before .before .before .before .pre in
-    (p .0, p .1, inverse-lt (p .0) _ _ (p .2) (sym (ap valuesOf (c .before .x .given .1)) ∙ c .before .before .before .inverse .ensures))
+multiply-requires c κs = let p = c .before .before .before .before .pre in (
+  p .0,
+  p .1,
+  inverse-lt (p .0) _ _ (p .2)
+      (sym (ap valuesOf (c .before .x .given .1)) ∙ c .before .before .before .inverse .ensures),
+)
 
 returns-2 : tie.Need-returns-2
-returns-2 c = quotient-present _ _ _ _ _ (sym (ap valuesOf (c .before .before .x .given .1)) ∙ c .before .before .before .before .inverse .ensures) (c .multiply .ensures)
+returns-2 c =
+    quotient-present _ _ _ _ _
+    (sym (ap valuesOf (c .before .before .x .given .1)) ∙ c .before .before .before .before .inverse .ensures)
+    (c .multiply .ensures)
 
 pub divide-spec : {M : Type 1} → statement M
 divide-spec =

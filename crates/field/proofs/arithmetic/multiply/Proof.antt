@@ -37,15 +37,29 @@ loop-less : tie.Need-loop-less Inv-loop μ-loop
 loop-less c = omega arith
 
 loop-again : tie.Need-loop-again Inv-loop μ-loop
-loop-again c = let v = c .before .before .before .loop .inv in
-    (v .0, v .1, v .2, v .3, omega arith, multiply-set (v .0) _ _ _ _ _ (v .2) (omega arith) (v .5) (c .before .double .ensures) (search needs))
+loop-again c = let v = c .before .before .before .loop .inv in (
+  v .0,
+  v .1,
+  v .2,
+  v .3,
+  omega arith,
+  multiply-set (v .0) _ _ _ _ _ (v .2) (omega arith) (v .5) (c .before .double .ensures)
+      (search needs),
+)
 
 loop-less-2 : tie.Need-loop-less-2 Inv-loop μ-loop
 loop-less-2 c = omega arith
 
 loop-again-2 : tie.Need-loop-again-2 Inv-loop μ-loop
-loop-again-2 c = let v = c .before .before .before .loop .inv in
-    (v .0, v .1, v .2, v .3, omega arith, multiply-clear (v .0) _ _ _ _ _ (v .2) (omega arith) (v .5) (c .before .double .ensures) (search needs))
+loop-again-2 c = let v = c .before .before .before .loop .inv in (
+  v .0,
+  v .1,
+  v .2,
+  v .3,
+  omega arith,
+  multiply-clear (v .0) _ _ _ _ _ (v .2) (omega arith) (v .5) (c .before .double .ensures)
+      (search needs),
+)
 
 returns : tie.Need-returns Inv-loop μ-loop
 returns c = let l = c .before .loop in multiply-end (l .inv .0) _ _ _ _ (omega arith) (l .inv .5)

@@ -28,12 +28,13 @@ loop-less : tie.Need-loop-less Inv-loop μ-loop
 loop-less c = omega arith
 
 loop-again : tie.Need-loop-again Inv-loop μ-loop
-loop-again c = let v = c .before .before .before .loop .inv in let r = c .before .with-factor .ensures in let x = c .multiply .ensures in (
-  v .0,
-  product-lt (v .0) _ _ r,
-  product-lt (v .0) _ _ x,
-  power-turn (v .0) _ _ _ _ _ r x ∙ v .3,
-)
+loop-again c =
+    let v = c .before .before .before .loop .inv in let r = c .before .with-factor .ensures in let x = c .multiply .ensures in (
+      v .0,
+      product-lt (v .0) _ _ r,
+      product-lt (v .0) _ _ x,
+      power-turn (v .0) _ _ _ _ _ r x ∙ v .3,
+    )
 
 returns : tie.Need-returns Inv-loop μ-loop
 returns c = let v = c .before .loop .inv in sym (power-end (v .0) _ _ _ (v .1) (omega arith)) ∙ v .3

@@ -24,7 +24,8 @@ add-s : tie.Need-add-s Inv-loop μ-loop
 add-s c = let v = c .before .before .loop .inv in omega (arith, order-lt (v .0), v .0 .most, v .4)
 
 loop-less : tie.Need-loop-less Inv-loop μ-loop
-loop-less c = let v = c .before .before .loop .inv in let l = count-on (v .0) _ _ (v .2) (v .4) (c .before .loop-test .taken) in omega arith
+loop-less c =
+    let v = c .before .before .loop .inv in let l = count-on (v .0) _ _ (v .2) (v .4) (c .before .loop-test .taken) in omega arith
 
 loop-again : tie.Need-loop-again Inv-loop μ-loop
 loop-again c = let v = c .before .before .loop .inv in let l = count-on (v .0) _ _ (v .2) (v .4) (c .before .loop-test .taken) in

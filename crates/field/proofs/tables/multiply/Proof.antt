@@ -18,19 +18,28 @@ log-requires-2 : tie.Need-log-requires-2
 log-requires-2 c κs = search needs
 
 add-result : tie.Need-add-result
-add-result c = let p = c .before .before .before .before .before .before .pre in let i = log-lt (p .0) (p .1) (c .before .before .before .if1 .left) (c .before .log .ensures) in
+add-result c =
+    let p = c .before .before .before .before .before .before .pre in
+    let i = log-lt (p .0) (p .1) (c .before .before .before .if1 .left) (c .before .log .ensures) in
     let j = log-lt (p .0) (p .2) (c .before .before .if2 .left) (c .log2 .ensures) in omega (arith, sum-lt (p .0) i j .1)
 
 mul-result : tie.Need-mul-result
-mul-result c = let p = c .before .before .before .before .before .before .pre in let i = log-lt (p .0) (p .1) (c .before .before .before .if1 .left) (c .before .log .ensures) in
+mul-result c =
+    let p = c .before .before .before .before .before .before .pre in
+    let i = log-lt (p .0) (p .1) (c .before .before .before .if1 .left) (c .before .log .ensures) in
     let j = log-lt (p .0) (p .2) (c .before .before .if2 .left) (c .log2 .ensures) in omega (arith, sum-lt (p .0) i j .1)
 
 shared-slice-read-result : tie.Need-shared-slice-read-result
-shared-slice-read-result c = let p = c .before .before .before .before .before .before .before .pre in let i = log-lt (p .0) (p .1) (c .before .before .before .before .if1 .left) (c .before .before .log .ensures) in
+shared-slice-read-result c =
+    let p = c .before .before .before .before .before .before .before .pre in
+    let i = log-lt (p .0) (p .1) (c .before .before .before .before .if1 .left) (c .before .before .log .ensures) in
     let j = log-lt (p .0) (p .2) (c .before .before .before .if2 .left) (c .before .log2 .ensures) in sum-lt (p .0) i j .0
 
 returns-3 : tie.Need-returns-3
-returns-3 c = let p = c .before .before .before .before .before .before .before .pre in by-logs (p .0) (p .1) (p .2) (c .before .before .before .before .if1 .left) (c .before .before .before .if2 .left) (c .before .before .log .ensures) (c .before .log2 .ensures)
+returns-3 c =
+    let p = c .before .before .before .before .before .before .before .pre in
+    by-logs (p .0) (p .1) (p .2) (c .before .before .before .before .if1 .left) (c .before .before .before .if2 .left)
+    (c .before .before .log .ensures) (c .before .log2 .ensures)
 
 pub multiply-spec : {M : Type 1} → statement M
 multiply-spec =

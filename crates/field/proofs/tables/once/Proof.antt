@@ -13,7 +13,9 @@ use Rattle.field.proofs.tables.once.Statement.{statement}
 use Rattle.field.proofs.tables.once.Tie as tie
 
 abbrev Inv-loop : tie.InvT-loop
-Inv-loop s n e₀ g₀ m x₀ i₀ e g x i = Room s e₀ g₀ × (n ≡ 2 ^ s - 1) × (m ≡ maskOf s) × (i ≤ n) × (length e ≡ length e₀) × (length g ≡ length g₀) × (x < 2 ^ s) × (x ≡ fieldPower s ω i)
+Inv-loop s n e₀ g₀ m x₀ i₀ e g x i =
+    Room s e₀ g₀ × (n ≡ 2 ^ s - 1) × (m ≡ maskOf s) × (i ≤ n) × (length e ≡ length e₀) × (length g ≡ length g₀) × (x < 2 ^ s)
+    × (x ≡ fieldPower s ω i)
     × Powers s i e × Logs s i g₀ g × ((4 ≤ 2 ^ s) × (2 ^ s ≤ 4096))
 
 abbrev μ-loop : tie.MeasureT-loop
@@ -54,19 +56,21 @@ loop-less : tie.Need-loop-less Inv-loop μ-loop
 loop-less c = search needs
 
 loop-again : tie.Need-loop-again Inv-loop μ-loop
-loop-again c = let v = c .before .before .loop .inv in let y = c .double .ensures in let d = v .0 .degree in let h = v .0 .e-long in let k = v .0 .g-long in (
-  v .0,
-  v .1,
-  v .2,
-  omega arith,
-  simp length-set (v .4),
-  simp length-set (v .5),
-  product-lt d _ _ y,
-  next-power _ _ (v .7) y,
-  powers-more (omega arith) (v .7) (v .8),
-  logs-more d (omega arith) (omega arith) (v .7) (v .9),
-  v .10,
-)
+loop-again c =
+    let v = c .before .before .loop .inv in let y = c .double .ensures in let d = v .0 .degree in let h = v .0 .e-long in
+    let k = v .0 .g-long in (
+      v .0,
+      v .1,
+      v .2,
+      omega arith,
+      simp length-set (v .4),
+      simp length-set (v .5),
+      product-lt d _ _ y,
+      next-power _ _ (v .7) y,
+      powers-more (omega arith) (v .7) (v .8),
+      logs-more d (omega arith) (omega arith) (v .7) (v .9),
+      v .10,
+    )
 
 same-length : tie.Need-same-length Inv-loop μ-loop
 same-length c = c .before .loop .inv .4
@@ -75,7 +79,9 @@ same-length-2 : tie.Need-same-length-2 Inv-loop μ-loop
 same-length-2 c = c .before .loop .inv .5
 
 returns : tie.Need-returns Inv-loop μ-loop
-returns c = let l = c .before .loop in let e : l .i ≡ c .before .before .before .before .before .args .n = omega arith in (rw e at (l .inv .8), rw e at (l .inv .9))
+returns c =
+    let l = c .before .loop in let e : l .i ≡ c .before .before .before .before .before .args .n = omega arith in
+    (rw e at (l .inv .8), rw e at (l .inv .9))
 
 pub once-spec : {M : Type 1} → statement M
 once-spec =

@@ -1,17 +1,24 @@
--- Laws of search.
+-- Laws of search, of tests over the numbers below n, and of sums.
 --
 --   Least test n m      m is the least number below n that passes, or n
 --   least-is            so is `least test n`; least-unique: and nothing else is
 --   least-most          it is at most any number that passes
 --   keep-one            where one number below n passes, that one is kept; keep-none: where none does, none
+--   some-at, some-of, some-none     some number below n passes exactly when there is one; none does where `some` says so
+--   some-map                        what follows from a test follows for a list
+--   every-at, every-of              all numbers below n pass exactly when each does
+--   length-upTo, length-keep        lengths
+--   total-z, total-s, total-ext     sums
 use mathlib.Core.Path.{_≡_, refl, sym, ap, ap₂, _∙_}
 use mathlib.Core.Logic.{_≢_, _⊎_, inl, inr}
-use mathlib.Core.Bool.{Bool, true, false}
+use mathlib.Core.Bool.{Bool, true, false, _&&_, _||_}
 use mathlib.Core.List.{List, [], _∷_, _++_}
 use Prim.Native.Nat.{ℕ, zero, suc, _+_, _≤_, _<_}
 use native.Mathlib.Decide.{ℕ-discrete, decLt}
+use native.Mathlib.Numerals.{add-one}
 use native.Mathlib.Omega.{arith}
-use Rattle.field.specs.Search.{leastFrom, least, upTo, keep}
+use lib.ListN.{length, length-append}
+use Rattle.field.specs.Search.{leastFrom, least, upTo, keep, some, every, total}
 
 pub record Least (test : ℕ → Bool) (n m : ℕ) : Type 0 where
   pub le : m ≤ n
@@ -55,7 +62,7 @@ least-is test n =
       passes = λ h. f .passes (omega arith);
     }
 
-true-ne-false : {b : Bool} → b ≡ true → b ≡ false → ⊥
+pub true-ne-false : {b : Bool} → b ≡ true → b ≡ false → ⊥
 true-ne-false p q = let z : _≡_ {A = Bool} true false = sym p ∙ q in let o : _≡_ {A = ℕ} 0 1 = cc in omega arith
 
 pub least-unique : {test : ℕ → Bool} {n m k : ℕ} → Least test n m → Least test n k → m ≡ k
@@ -117,3 +124,132 @@ keep-one test (suc n) x l e h = keep-suc test n ∙ go (ℕ-discrete n x) (λ m.
         ap₂ _++_ (keep-none test n (λ k m. h k (omega arith) (λ z. omega arith)))
         (ap (λ (y : ℕ). keep test (y ∷ [])) q ∙ keep-yes test x [] e)
     go (no q) ih = ap₂ _++_ (ih (omega arith)) (keep-no test n [] (h n (omega arith) q))
+
+-- ---- tests over the numbers below n
+or-cases : (a b : Bool) → a || b ≡ true → (a ≡ true) ⊎ (b ≡ true)
+or-cases true b e = inl refl
+or-cases false b e = inr e
+
+or-none : (a b : Bool) → a || b ≡ false → (a ≡ false) × (b ≡ false)
+or-none true b e = absurd (true-ne-false refl e)
+or-none false b e = (refl, e)
+
+or-right : (a b : Bool) → b ≡ true → a || b ≡ true
+or-right true b e = refl
+or-right false b e = e
+
+and-both : (a b : Bool) → a && b ≡ true → (a ≡ true) × (b ≡ true)
+and-both true b e = (refl, e)
+and-both false b e = absurd (true-ne-false e refl)
+
+or-false : (a : Bool) → a || false ≡ a
+or-false true = refl
+or-false false = refl
+
+and-true : (a : Bool) → a && true ≡ a
+and-true true = refl
+and-true false = refl
+
+some-append : (test : ℕ → Bool) (l m : List ℕ) → some test (l ++ m) ≡ some test l || some test m
+unfolding some
+some-append test [] m = refl
+some-append test (x ∷ l) m = ap (λ b. test x || b) (some-append test l m) ∙ go (test x) (some test l) (some test m)
+  where
+    go : (a b c : Bool) → a || (b || c) ≡ a || b || c
+    go true b c = refl
+    go false b c = refl
+
+every-append : (test : ℕ → Bool) (l m : List ℕ) → every test (l ++ m) ≡ every test l && every test m
+unfolding every
+every-append test [] m = refl
+every-append test (x ∷ l) m = ap (λ b. test x && b) (every-append test l m) ∙ go (test x) (every test l) (every test m)
+  where
+    go : (a b c : Bool) → a && (b && c) ≡ a && b && c
+    go true b c = refl
+    go false b c = refl
+
+pub some-suc : (test : ℕ → Bool) (n : ℕ) → some test (upTo (suc n)) ≡ some test (upTo n) || test n
+unfolding some
+some-suc test n =
+    ap (some test) (upTo-suc n) ∙ some-append test (upTo n) (n ∷ []) ∙ ap (λ b. some test (upTo n) || b) (or-false (test n))
+
+pub every-suc : (test : ℕ → Bool) (n : ℕ) → every test (upTo (suc n)) ≡ every test (upTo n) && test n
+unfolding every
+every-suc test n =
+    ap (every test) (upTo-suc n) ∙ every-append test (upTo n) (n ∷ []) ∙ ap (λ b. every test (upTo n) && b) (and-true (test n))
+
+pub some-zero : (test : ℕ → Bool) → some test (upTo 0) ≡ false
+unfolding some upTo
+some-zero test = refl
+
+pub every-zero : (test : ℕ → Bool) → every test (upTo 0) ≡ true
+unfolding every upTo
+every-zero test = refl
+
+pub some-at : (test : ℕ → Bool) (n : ℕ) → some test (upTo n) ≡ true → (k : ℕ) × (k < n) × (test k ≡ true)
+some-at test zero e = absurd (true-ne-false e (some-zero test))
+some-at test (suc n) e = elim (or-cases (some test (upTo n)) (test n) (sym (some-suc test n) ∙ e)) [
+  | inl h ↦ (let r = some-at test n h in (r .0, omega (arith, r .1), r .2))
+  | inr h ↦ (n, omega arith, h)
+]
+
+pub some-none : (test : ℕ → Bool) (n : ℕ) → some test (upTo n) ≡ false → (k : ℕ) → k < n → test k ≡ false
+some-none test zero e k h = absurd (omega arith)
+some-none test (suc n) e k h =
+    let b = or-none (some test (upTo n)) (test n) (sym (some-suc test n) ∙ e) in
+    elim (ℕ-discrete k n) [ yes q ↦ ap test q ∙ b .1 | no q ↦ some-none test n (b .0) k (omega arith) ]
+
+pub some-of : (test : ℕ → Bool) (n k : ℕ) → k < n → test k ≡ true → some test (upTo n) ≡ true
+some-of test n k h e = go (some test (upTo n)) refl
+  where
+    go : (b : Bool) → some test (upTo n) ≡ b → some test (upTo n) ≡ true
+    go true q = q
+    go false q = absurd (true-ne-false e (some-none test n q k h))
+
+pub every-at : (test : ℕ → Bool) (n : ℕ) → every test (upTo n) ≡ true → (k : ℕ) → k < n → test k ≡ true
+every-at test zero e k h = absurd (omega arith)
+every-at test (suc n) e k h =
+    let b = and-both (every test (upTo n)) (test n) (sym (every-suc test n) ∙ e) in
+    elim (ℕ-discrete k n) [ yes q ↦ ap test q ∙ b .1 | no q ↦ every-at test n (b .0) k (omega arith) ]
+
+pub every-of : (test : ℕ → Bool) (n : ℕ) → ((k : ℕ) → k < n → test k ≡ true) → every test (upTo n) ≡ true
+every-of test zero h = every-zero test
+every-of test (suc n) h =
+    every-suc test n ∙ ap₂ _&&_ (every-of test n (λ k l. h k (omega arith))) (h n (omega arith))
+
+pub some-map : (p q : ℕ → Bool) → ((x : ℕ) → p x ≡ true → q x ≡ true) → (l : List ℕ) → some p l ≡ true → some q l ≡ true
+unfolding some
+some-map p q f [] e = e
+some-map p q f (x ∷ l) e = elim (or-cases (p x) (some p l) e) [
+  | inl h ↦ ap (λ b. b || some q l) (f x h)
+  | inr h ↦ or-right (q x) (some q l) (some-map p q f l h)
+]
+
+-- ---- lengths and sums
+pub length-upTo : (n : ℕ) → length (upTo n) ≡ n
+unfolding upTo
+length-upTo zero = refl
+length-upTo (suc n) = length-append (upTo n) (n ∷ []) ∙ ap (λ (x : ℕ). x + 1) (length-upTo n) ∙ add-one n
+
+pub length-keep : (test : ℕ → Bool) (l : List ℕ) → length (keep test l) ≤ length l
+unfolding keep
+length-keep test [] = omega arith
+length-keep test (x ∷ l) = go (test x) (length-keep test l)
+  where
+    go : (b : Bool) → length (keep test l) ≤ length l
+        → length {A = ℕ} (elim b as (λ _. List ℕ) [ true ↦ x ∷ keep test l | false ↦ keep test l ]) ≤ suc (length l)
+    go true h = omega arith
+    go false h = omega arith
+
+pub total-z : (term : ℕ → ℕ) → total 0 term ≡ 0
+unfolding total
+total-z term = refl
+
+pub total-s : (n : ℕ) (term : ℕ → ℕ) → total (suc n) term ≡ total n term + term n
+unfolding total
+total-s n term = refl
+
+pub total-ext : (n : ℕ) (f g : ℕ → ℕ) → ((i : ℕ) → i < n → f i ≡ g i) → total n f ≡ total n g
+total-ext zero f g h = total-z f ∙ sym (total-z g)
+total-ext (suc n) f g h =
+    total-s n f ∙ ap₂ _+_ (total-ext n f g (λ i l. h i (omega arith))) (h n (omega arith)) ∙ sym (total-s n g)

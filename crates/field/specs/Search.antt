@@ -1,11 +1,13 @@
--- Search through numbers.
+-- Search through numbers, and their sums.
 --
 --   least test n     the least number below n that passes the test; n if none does
 --   upTo n           the numbers below n, rising
 --   keep test l      those of l that pass the test, in their order
-use mathlib.Core.Bool.{Bool, true, false}
+--   total n term     the sum of term i over i below n
+--   some test l      whether one of l passes the test; every test l: whether all do
+use mathlib.Core.Bool.{Bool, true, false, _&&_, _||_}
 use mathlib.Core.List.{List, [], _∷_, _++_}
-use Prim.Native.Nat.{ℕ, zero, suc}
+use Prim.Native.Nat.{ℕ, zero, suc, _+_}
 
 -- of the n numbers from i on
 unfoldable pub leastFrom : (ℕ → Bool) → ℕ → ℕ → ℕ
@@ -22,3 +24,15 @@ upTo (suc n) = upTo n ++ (n ∷ [])
 unfoldable pub keep : (ℕ → Bool) → List ℕ → List ℕ
 keep test [] = []
 keep test (x ∷ l) = elim (test x) [ true ↦ x ∷ keep test l | false ↦ keep test l ]
+
+unfoldable pub some : (ℕ → Bool) → List ℕ → Bool
+some test [] = false
+some test (x ∷ l) = test x || some test l
+
+unfoldable pub every : (ℕ → Bool) → List ℕ → Bool
+every test [] = true
+every test (x ∷ l) = test x && every test l
+
+unfoldable pub total : ℕ → (ℕ → ℕ) → ℕ
+total zero term = 0
+total (suc n) term = total n term + term n

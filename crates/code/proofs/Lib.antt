@@ -1,0 +1,3 @@
+-- Laws of the definitions, and the proved tables.
+pub mod Cases
+pub mod Sane

@@ -1,0 +1,2 @@
+// Everything document 01 says of sheets, certificates, words and messages.
+pub mod types;

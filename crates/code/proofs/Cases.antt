@@ -14,6 +14,7 @@ use lib.ListN.{length, getD, set, replicate}
 use Rattle.field.specs.Search.{leastFrom, least, upTo, keep, some, every, total}
 use Rattle.field.specs.Mask.{_⊕_, size, productBelow, clmul, divideDown, remainder}
 use Rattle.field.specs.Field.{masks, mask, fieldMultiply, fieldPower, α, orderOfTwo}
+use Rattle.poly.specs.Factor.{coprime, degree, divides, common, period, terms}
 use Rattle.code.specs.Answer.{Answer, firstOf, settle}
 use Rattle.code.specs.Layout.{wordWeight, messageWeight, bytesFor, place, maskOf, byteOf, bytesOf, spare}
 use Rattle.code.specs.Sheet.{statedLength, lengthOf, representativeCount, representativesAt, certificateCount, zeroOf}
@@ -21,8 +22,7 @@ use Rattle.code.specs.Sheet.{certificatesAt, representatives, certificat
 use Rattle.code.specs.Coset.{inCoset, smallest, inSet, definingSet, dimension}
 use Rattle.code.specs.Generator.{addPoly, timesRoot, rootProduct, generatorPoly, maskOfPoly, generator, isCodeword}
 use Rattle.code.specs.Generator.{encodeMask, messageOf, differences, nearest}
-use Rattle.code.specs.Certificate.{degree, coprime, divides, common, period, terms, rule1, rule2, rule3, rule4}
-use Rattle.code.specs.Certificate.{distance, radius, working}
+use Rattle.code.specs.Certificate.{rule1, rule2, rule3, rule4, distance, radius, working}
 use Rattle.code.specs.Judge.{wrongLength, wrongCodeLength, wrongDegree, wrongHeader, wrongRepresentative, noMessage}
 use Rattle.code.specs.Judge.{sheetConditions, certificateConditions, judgeConditions, dimensionOf, workingOf}
 use Rattle.code.specs.Judge.{workingCertificate}

@@ -1,46 +1,18 @@
 -- The certificate (document 001, with step z): its rules, its distance, the working one.
 --
---   degree f                  the degree of a mask
---   coprime a b               no number above 1 divides both
---   divides d a, common f h   a mask divides another; some mask of degree 1 or more divides both
---   period f                  the smallest p above 0 for which f divides x^p + 1
---   terms f h L               the first L terms of the power series h/f
 --   rule1 .. rule4            the four rules
 --   distance, radius          d and t of a certificate
 --   working count t           the first of the largest of t 0, t 1, .. below count
 use mathlib.Core.Bool.{Bool, not, _&&_, _||_}
-use mathlib.Core.List.{List, [], _∷_, _++_}
-use Prim.Native.Nat.{ℕ, zero, suc, _+_, _-_, _*_, _/_, _%_, _^_}
+use mathlib.Core.List.{List}
+use Prim.Native.Nat.{ℕ, suc, _+_, _-_, _*_, _/_, _%_}
 use lib.Dec.{eqb, leb, ltb}
 use lib.ListN.{getD}
-use Rattle.field.specs.Search.{least, upTo, some, every, total}
-use Rattle.field.specs.Mask.{_⊕_, coefficient, size, remainder}
+use Rattle.field.specs.Search.{least, upTo, every}
+use Rattle.field.specs.Mask.{coefficient}
+use Rattle.poly.specs.Factor.{coprime, degree, common, period, terms}
 use Rattle.code.specs.Sheet.{Certificate}
 use Rattle.code.specs.Coset.{inSet}
-
-unfoldable pub degree : ℕ → ℕ
-degree f = size f - 1
-
-unfoldable pub coprime : ℕ → ℕ → Bool
-coprime a b = every (λ d. not (eqb (a % (d + 2)) 0 && eqb (b % (d + 2)) 0)) (upTo (a + b))
-
-unfoldable pub divides : ℕ → ℕ → Bool
-divides d a = eqb (remainder (degree d) d a) 0
-
--- the masks from 2 on, which is x, up to f
-unfoldable pub common : ℕ → ℕ → Bool
-common f h = some (λ d. divides (d + 2) f && divides (d + 2) h) (upTo (f - 1))
-
--- A mask of degree u with constant term 1 has a period below 2^u, or of 1 for u = 1.
-unfoldable pub period : ℕ → ℕ
-period f = suc (least (λ j. divides f (2 ^ suc j ⊕ 1)) (2 ^ degree f))
-
--- "The sequence a0, a1, .. is the power series h/f over two elements": term j makes coefficient j of f·a that of h.
-unfoldable pub terms : ℕ → ℕ → ℕ → List ℕ
-terms f h zero = []
-terms f h (suc j) =
-    let a : List ℕ = terms f h j in
-    a ++ ((coefficient j h + total j (λ i. coefficient (j - i) f * getD a i 0)) % 2 ∷ [])
 
 -- "1. b is below n; z is 1 to n - 1 and coprime to n; u is 1 to 8 and f has constant term 1; h isn't 0 and v < u;
 -- L is 1 to 1,023; its zero byte on the sheet is 0"

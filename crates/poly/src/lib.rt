@@ -1,0 +1,1 @@
+// Polynomials: masks over two elements as numbers, and polynomials over the field in slices.

@@ -1,0 +1,22 @@
+-- Laws of binary cyclic codes, in reading order: masks, the code, its distance, decoding.
+pub mod Division
+pub mod Places
+pub mod Monic
+pub mod Lift
+pub mod MaskGcd
+pub mod NumberGcd
+pub mod Period
+pub mod Ratio
+pub mod CyclicCode
+pub mod Members
+pub mod Generator
+pub mod Encode
+pub mod Coset
+pub mod Apart
+pub mod Radius
+pub mod Errors
+pub mod Syndromes
+pub mod Certificate
+pub mod Nearest
+pub mod Divides
+pub mod Decode

@@ -1,0 +1,76 @@
+// Checksums over the elements of a degree: powers of 2, logarithms, inverses.
+ghost use Prim.Native.Nat.{_-_, _^_, _<_, _≤_};
+ghost use lib.ListN.{length};
+ghost use Rattle.field.specs.Field.{Degree};
+ghost use Rattle.field.specs.Tables.{Tables};
+use crate::checksum::add;
+use crate::checksum::size;
+use field::degree::order_of_two;
+use field::types::Quotient;
+
+// The powers once round: 2^s - 1 of them.
+pub fn powers(s: usize, e: &[u16]) -> u64
+    requires { ⌜ Degree s × (2 ^ s - 1 ≤ length (now e)) ⌝ }
+    ensures { λ r. ⌜ r < 4294967291 ⌝ }
+{
+    let n = field::arithmetic::order(s);
+    let mut h = 0u64;
+    let mut i = 0usize;
+    while i < n {
+        h = add(h, e[i]);
+        i = i + 1;
+    }
+    h
+}
+
+fn log(s: usize, a: u16, e: &[u16], g: &[u16]) -> u16
+    requires { ⌜ Tables s (now e) (now g) × (0 < a) × (a < 2 ^ s) ⌝ }
+{
+    field::tables::log(s, a, e, g) as u16
+}
+
+// The logarithms of all elements but 0.
+pub fn logs(s: usize, e: &[u16], g: &[u16]) -> u64
+    requires { ⌜ Tables s (now e) (now g) ⌝ }
+    ensures { λ r. ⌜ r < 4294967291 ⌝ }
+{
+    let end = size(s);
+    let mut h = 0u64;
+    let mut a = 1u16;
+    while a < end {
+        h = add(h, log(s, a, e, g));
+        a = a + 1;
+    }
+    h
+}
+
+fn inverse_or(s: usize, a: u16, absent: u16) -> u16
+    requires { ⌜ Degree s × (a < 2 ^ s) ⌝ }
+{
+    let Quotient::Of(x) = field::arithmetic::inverse(s, a) else {
+        return absent;
+    };
+    x
+}
+
+// An absent inverse counts as 2^s, which is no element.
+pub fn inverses(s: usize) -> u64
+    requires { ⌜ Degree s ⌝ }
+    ensures { λ r. ⌜ r < 4294967291 ⌝ }
+{
+    let end = size(s);
+    let mut h = 0u64;
+    let mut a = 0u16;
+    while a < end {
+        h = add(h, inverse_or(s, a, end));
+        a = a + 1;
+    }
+    h
+}
+
+// The order of 2 for the length 2^s - 1: s itself.
+pub fn order(s: usize) -> u64
+    requires { ⌜ Degree s ⌝ }
+{
+    order_of_two(field::arithmetic::order(s)) as u64
+}

@@ -1,3 +1,4 @@
 -- Laws of the definitions, and the proved tables.
 pub mod Cases
 pub mod Sane
+pub mod Header

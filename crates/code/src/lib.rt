@@ -1,2 +1,3 @@
 // Everything document 01 says of sheets, certificates, words and messages.
+pub mod sheet;
 pub mod types;

@@ -39,3 +39,9 @@ pub enum Reply {
     Done(usize),
     Refused(Refusal),
 }
+
+// What a stage of judging says: nothing yet, or a refusal.
+pub enum Stage {
+    Pass,
+    Fail(Refusal),
+}

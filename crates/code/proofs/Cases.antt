@@ -5,6 +5,7 @@
 --   facts, encodes, decodes             what the definitions say, as numbers
 --   said, expected, cases-hold          the twelve cases: what the definitions say is what document 01 says
 --   refusals-hold                       the examples of "Refused, by number", 1 to 14, by their numbers
+--   near-hold                           near misses: rows that definitions a step away would get wrong
 --   listing-holds                       the listing of sheet H, byte for byte
 -- Where document 01 abbreviates an example of a refusal, the sheet is H with what is said changed.
 use mathlib.Core.Path.{_≡_, refl}
@@ -17,7 +18,7 @@ use Rattle.field.specs.Field.{masks, mask, fieldMultiply, fieldPower, α, order
 use Rattle.poly.specs.Factor.{coprime, degree, divides, common, period, terms}
 use Rattle.code.specs.Answer.{Answer, firstOf, settle}
 use Rattle.code.specs.Layout.{wordWeight, messageWeight, bytesFor, place, maskOf, byteOf, bytesOf, spare}
-use Rattle.code.specs.Sheet.{statedLength, lengthOf, representativeCount, representativesAt, certificateCount, zeroOf}
+use Rattle.code.specs.Sheet.{statedLength, codeLength, representativeCount, representativesAt, certificateCount, zeroOf}
 use Rattle.code.specs.Sheet.{certificatesAt, representatives, certificate}
 use Rattle.code.specs.Coset.{inCoset, smallest, inSet, definingSet, dimension}
 use Rattle.code.specs.Generator.{addPoly, timesRoot, rootProduct, generatorPoly, maskOfPoly, generator, isCodeword}
@@ -36,7 +37,7 @@ use Rattle.code.specs.Card.{refusedLine, acceptedLines, listingFor, list
 definitions : ℕ
 unfolding leastFrom least upTo keep some every total _⊕_ size productBelow clmul divideDown remainder masks mask
     fieldMultiply fieldPower α orderOfTwo firstOf settle wordWeight messageWeight bytesFor place maskOf byteOf bytesOf
-    spare statedLength lengthOf representativeCount representativesAt certificateCount zeroOf certificatesAt
+    spare statedLength codeLength representativeCount representativesAt certificateCount zeroOf certificatesAt
     representatives certificate inCoset smallest inSet definingSet dimension addPoly timesRoot rootProduct generatorPoly
     maskOfPoly generator isCodeword encodeMask messageOf differences nearest degree coprime divides common period terms
     rule1 rule2 rule3 rule4 distance radius working wrongLength wrongCodeLength wrongDegree wrongHeader
@@ -84,7 +85,7 @@ facts sheet = pick (judgeOf sheet)
 -- the word of a message, both as masks
 encodes : List ℕ → ℕ → List ℕ
 encodes sheet message =
-    let n : ℕ = lengthOf sheet in
+    let n : ℕ = codeLength sheet in
     let k : ℕ = dimensionOf sheet in
     let r = encodeOf sheet (bytesOf messageWeight k message) (replicate (bytesFor n) 0) in
     r .0 .number ∷ maskOf wordWeight n (r .1) ∷ []
@@ -92,7 +93,7 @@ encodes sheet message =
 -- the answer to a received word: its number, what is returned, and the word written
 decodes : List ℕ → ℕ → List ℕ
 decodes sheet received =
-    let n : ℕ = lengthOf sheet in
+    let n : ℕ = codeLength sheet in
     let r = decodeOf sheet (bytesOf wordWeight n received) (replicate (bytesFor n) 0) in
     r .0 .number ∷ r .0 .values ++ (maskOf wordWeight n (r .1) ∷ [])
 
@@ -163,6 +164,72 @@ refusals =
 refusals-hold : refusals ≡ 1 ∷ 2 ∷ 3 ∷ 4 ∷ 5 ∷ 6 ∷ 7 ∷ 8 ∷ 9 ∷ 10 ∷ 11 ∷ 12 ∷ 13 ∷ 14 ∷ []
 unfolding refusals judged decoded readOut sheetH sheetE sheetS oneCertificate sheetOf definitions
 refusals-hold = refl
+
+-- ---- near misses: rows that definitions a step away would get wrong
+twoCertificates : ℕ → List ℕ → List ℕ → List ℕ → List ℕ
+twoCertificates n reps c d = sheetOf n reps (c ++ d) (26 + length reps) 2
+
+certificateOf : ℕ → ℕ → ℕ → ℕ → ℕ → ℕ → List ℕ
+certificateOf b z f high h L = b ∷ z ∷ f ∷ high ∷ h ∷ 0 ∷ L ∷ 0 ∷ []
+
+record-of : List ℕ → List ℕ
+record-of sheet = let a : Answer = judgeOf sheet in a .number ∷ a .values
+
+answered : Answer × List ℕ → List ℕ
+answered r = r .0 .number ∷ r .0 .values ++ r .1
+
+near : List (List ℕ)
+near =
+    record-of (oneCertificate 7 (1 ∷ []) 0 1 3 1 2)  -- 0 is not in D, the last term is
+    ∷ record-of (oneCertificate 7 (1 ∷ []) 1 2 3 1 2)  -- 1, 3: the step counts
+    ∷ record-of (oneCertificate 7 (1 ∷ []) 1 3 3 1 2)  -- 1, 4
+    ∷ record-of (twoCertificates 7 (1 ∷ []) (certificateOf 1 1 3 0 1 2) (certificateOf 1 1 3 0 1 2))  -- the first of two equal
+    ∷ record-of (twoCertificates 7 (0 ∷ 1 ∷ []) (certificateOf 0 1 3 0 1 2) (certificateOf 0 1 3 0 1 3))  -- d 3 and 4, one t: the first
+    ∷ record-of (twoCertificates 15 (1 ∷ 3 ∷ []) (certificateOf 1 1 3 0 1 2) (certificateOf 1 1 3 0 1 4))  -- the larger t
+    ∷ record-of (twoCertificates 7 (1 ∷ []) (certificateOf 1 1 3 0 1 2) (certificateOf 1 1 3 0 1 3))  -- the second is refused
+    ∷ record-of (twoCertificates 7 (1 ∷ []) (certificateOf 1 1 3 0 1 3) (certificateOf 1 0 3 0 1 2))  -- 10 of the first before 7 of the second
+    ∷ record-of (oneCertificate 7 (0 ∷ 1 ∷ []) 0 1 31 8 1)  -- L is not above v: d is 1
+    ∷ record-of (oneCertificate 15 (1 ∷ []) 1 3 3 1 1)  -- z and n have a common factor
+    ∷ record-of (oneCertificate 7 (1 ∷ 0 ∷ []) 1 1 3 1 2)  -- representatives falling
+    ∷ record-of (sheetOf 7 (1 ∷ []) (certificateOf 1 1 3 2 1 2) 19 1)  -- f = 515 has degree 9
+    ∷ record-of (oneCertificate 7 (1 ∷ []) 1 1 6 1 2)  -- f has no constant term
+    ∷ record-of (oneCertificate 15 (1 ∷ []) 1 1 19 1 1)  -- the period of f is 15
+    ∷ record-of (sheetOf 7 [] (certificateOf 0 1 7 0 2 1) 18 1)  -- R = 0
+    ∷ answered (readOf sheetH (11 ∷ []) (0xAA ∷ []))  -- a codeword is read
+    ∷ answered (readOf sheetH (10 ∷ []) (0xAA ∷ []))  -- a refusal leaves the lent byte
+    ∷ answered (decodeOf sheetH (10 ∷ []) (0xAA ∷ 0xBB ∷ []))  -- the output's length counts
+    ∷ answered (decodeOf sheetH (0x8A ∷ []) (0xAA ∷ 0xBB ∷ []))  -- and before spare bits
+    ∷ answered (decodeOf sheetH (0x8A ∷ []) (0xAA ∷ []))  -- a spare bit of the input
+    ∷ answered (decodeOf sheetH (10 ∷ []) (0xAA ∷ []))  -- one of the output is no matter
+    ∷ answered (encodeOf sheetH (0x12 ∷ []) (0xAA ∷ []))  -- a spare bit of a message
+    ∷ []
+
+near-hold : near
+    ≡ (10 ∷ [])
+    ∷ (10 ∷ [])
+    ∷ (0 ∷ 7 ∷ 4 ∷ 3 ∷ 0 ∷ 3 ∷ 1 ∷ 2 ∷ [])
+    ∷ (0 ∷ 7 ∷ 4 ∷ 3 ∷ 0 ∷ 3 ∷ 1 ∷ 2 ∷ [])
+    ∷ (0 ∷ 7 ∷ 3 ∷ 3 ∷ 0 ∷ 3 ∷ 1 ∷ 2 ∷ [])
+    ∷ (0 ∷ 15 ∷ 7 ∷ 4 ∷ 1 ∷ 5 ∷ 2 ∷ 4 ∷ [])
+    ∷ (10 ∷ [])
+    ∷ (10 ∷ [])
+    ∷ (0 ∷ 7 ∷ 3 ∷ 3 ∷ 0 ∷ 1 ∷ 0 ∷ 1 ∷ [])
+    ∷ (7 ∷ [])
+    ∷ (5 ∷ [])
+    ∷ (7 ∷ [])
+    ∷ (7 ∷ [])
+    ∷ (9 ∷ [])
+    ∷ (0 ∷ 7 ∷ 7 ∷ 3 ∷ 0 ∷ 1 ∷ 0 ∷ 1 ∷ [])
+    ∷ (0 ∷ 0 ∷ 1 ∷ [])
+    ∷ (14 ∷ 0xAA ∷ [])
+    ∷ (11 ∷ 0xAA ∷ 0xBB ∷ [])
+    ∷ (11 ∷ 0xAA ∷ 0xBB ∷ [])
+    ∷ (12 ∷ 0xAA ∷ [])
+    ∷ (0 ∷ 1 ∷ 11 ∷ [])
+    ∷ (12 ∷ 0xAA ∷ [])
+    ∷ []
+unfolding near record-of answered twoCertificates certificateOf sheetH oneCertificate sheetOf definitions
+near-hold = refl
 
 -- ---- the listing
 -- code 7 4 3, zeros 1 2 4, generator 1101, cert 0 terms 2 distance 3, radius 1 from cert 0

@@ -14,7 +14,7 @@ use lib.ListN.{length, getD}
 use borrow.Author.Tests.{lt-ltb, le-ltb, eq-eqb, ne-eqb, ltb-false, eqb-true, eqb-false}
 use Rattle.field.proofs.Search.{true-ne-false}
 use Rattle.field.specs.Field.{OddLength, orderOfTwo}
-use Rattle.code.specs.Sheet.{byteAt, numberAt, statedLength, lengthOf, representativeCount, representativesAt}
+use Rattle.code.specs.Sheet.{byteAt, numberAt, statedLength, codeLength, representativeCount, representativesAt}
 use Rattle.code.specs.Sheet.{certificateCount, zeroOf, certificatesAt}
 use Rattle.code.specs.Judge.{wrongLength, wrongCodeLength, wrongDegree, wrongHeader}
 use Rattle.code.specs.Stage.{Headed}
@@ -39,29 +39,29 @@ module _ (s : List ℕ) where
       length-pass h = simp (le-ltb _ _ a, le-ltb _ _ b, eq-eqb _ _ h)
 
   pub code-1 : byteAt s 2 % 2 ≡ 0 → true ≡ wrongCodeLength s
-  unfolding wrongCodeLength lengthOf
+  unfolding wrongCodeLength codeLength
   code-1 h = simp (eq-eqb _ _ h)
 
   module _ (a : byteAt s 2 % 2 ≢ 0) where
     pub code-2 : byteAt s 2 < 3 → true ≡ wrongCodeLength s
-    unfolding wrongCodeLength lengthOf
+    unfolding wrongCodeLength codeLength
     code-2 h = simp (ne-eqb _ _ a, lt-ltb _ _ h)
 
     module _ (b : 3 ≤ byteAt s 2) where
       pub code-3 : 127 < byteAt s 2 → true ≡ wrongCodeLength s
-      unfolding wrongCodeLength lengthOf
+      unfolding wrongCodeLength codeLength
       code-3 h = simp (ne-eqb _ _ a, le-ltb _ _ b, lt-ltb _ _ h)
 
       pub code-pass : byteAt s 2 ≤ 127 → false ≡ wrongCodeLength s
-      unfolding wrongCodeLength lengthOf
+      unfolding wrongCodeLength codeLength
       code-pass h = simp (ne-eqb _ _ a, le-ltb _ _ b, le-ltb _ _ h)
 
   pub degree-1 : 12 < orderOfTwo (byteAt s 2) → true ≡ wrongDegree s
-  unfolding wrongDegree lengthOf
+  unfolding wrongDegree codeLength
   degree-1 h = simp (lt-ltb _ _ h)
 
   pub degree-pass : orderOfTwo (byteAt s 2) ≤ 12 → false ≡ wrongDegree s
-  unfolding wrongDegree lengthOf
+  unfolding wrongDegree codeLength
   degree-pass h = simp (le-ltb _ _ h)
 
   -- the counts that the code holds in locals
@@ -121,7 +121,7 @@ not-false true e = refl
 not-false false e = absurd (true-ne-false refl e)
 
 pub odd-length : (s : List ℕ) → wrongCodeLength s ≡ false → OddLength (byteAt s 2)
-unfolding wrongCodeLength lengthOf
+unfolding wrongCodeLength codeLength
 odd-length s e =
     let p = or-false (eqb (byteAt s 2 % 2) 0 || ltb (byteAt s 2) 3) (ltb 127 (byteAt s 2)) e in
     let q = or-false (eqb (byteAt s 2 % 2) 0) (ltb (byteAt s 2) 3) (p .0) in
@@ -131,10 +131,10 @@ odd-length s e =
     record { least = l; most = omega arith; odd = omega arith }
 
 pub headed : (s : List ℕ) → wrongCodeLength s ≡ false → wrongDegree s ≡ false → wrongHeader s ≡ false → Headed s
-unfolding wrongCodeLength wrongDegree wrongHeader lengthOf
+unfolding wrongCodeLength wrongDegree wrongHeader codeLength
 headed s e₂ e₃ e₄ =
     let o = odd-length s e₂ in
-    let p₂ = or-false (eqb (lengthOf s % 2) 0 || ltb (lengthOf s) 3) (ltb 127 (lengthOf s)) e₂ in
+    let p₂ = or-false (eqb (codeLength s % 2) 0 || ltb (codeLength s) 3) (ltb 127 (codeLength s)) e₂ in
     let p₆ = or-false _ (not (eqb (length s) (10 + representativeCount s + 8 * certificateCount s))) e₄ in
     let p₅ = or-false _ (not (eqb (certificatesAt s) (10 + representativeCount s))) (p₆ .0) in
     let p₄ = or-false _ (not (eqb (zeroOf s) 0)) (p₅ .0) in
@@ -143,9 +143,9 @@ headed s e₂ e₃ e₄ =
     let q₁ = or-false (ltb 32 (representativeCount s)) (not (eqb (representativesAt s) 10)) (p₃ .0) in
     record {
       least = o .least;
-      most = ltb-false 127 (lengthOf s) (p₂ .1);
+      most = ltb-false 127 (codeLength s) (p₂ .1);
       odd = o .odd;
-      degree = ltb-false 12 (orderOfTwo (lengthOf s)) e₃;
+      degree = ltb-false 12 (orderOfTwo (codeLength s)) e₃;
       reps = ltb-false 32 (representativeCount s) (q₁ .0);
       one = ltb-false (certificateCount s) 1 (q₃ .0);
       four = ltb-false 4 (certificateCount s) (q₃ .1);

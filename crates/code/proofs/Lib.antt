@@ -1,4 +1,6 @@
 -- Laws of the definitions, and the proved tables.
 pub mod Cases
+pub mod DefiningSet
+pub mod Listed
 pub mod Sane
 pub mod Header

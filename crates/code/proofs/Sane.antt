@@ -2,7 +2,7 @@
 --
 --   distance-pos        a distance is at least 1
 --   radius-most         the t of every certificate on the sheet is at most the sheet's t
---   set-doubles         D is closed under doubling
+--   (that D is closed under doubling is set-doubles of DefiningSet.antt)
 --   poly-length, poly-top      the generator has degree n - k: n - k + 1 coefficients, the highest of them 1
 --   empty-dimension, empty-generator      a sheet with R = 0 has k = n and generator 1
 --   accepted-dimension  an accepted sheet has 1 ≤ k
@@ -11,23 +11,21 @@ use mathlib.Core.Logic.{_≢_}
 use mathlib.Core.Bool.{Bool, true, false, _||_}
 use mathlib.Core.List.{List, [], _∷_, _++_, map}
 use Prim.Native.Nat.{ℕ, zero, suc, _+_, _-_, _*_, _/_, _%_, _^_, _≤_, _<_}
-use native.Mathlib.Nat.{mul-assoc, mul-comm, one-mul, pow-suc, sub-zero}
+use native.Mathlib.Nat.{sub-zero}
 use native.Mathlib.Decide.{decLt, ℕ-discrete}
 use native.Mathlib.Omega.{arith}
 use lib.Dec.{eqb, leb}
 use lib.ListN.{length, getD, take, drop, length-map, List·getD-eq-default}
-use lib.Pow.{pow-add}
-use borrow.Author.Tests.{eqb-true, eqb-false, eq-eqb, leb-true, le-leb}
+use borrow.Author.Tests.{eqb-false, leb-true, le-leb}
 use Rattle.field.specs.Search.{least, upTo, keep, some, every, total}
 use Rattle.field.specs.Mask.{_⊕_}
-use Rattle.field.specs.Field.{OddLength, fieldMultiply, fieldPower, orderOfTwo, α}
-use Rattle.field.proofs.Search.{Least, least-is, least-most, some-at, some-of, some-map, keep-none, every-at, every-of}
+use Rattle.field.specs.Field.{fieldMultiply, fieldPower, orderOfTwo, α}
+use Rattle.field.proofs.Search.{Least, least-is, least-most, keep-none, every-at, every-of}
 use Rattle.field.proofs.Search.{length-upTo, length-keep}
 use Rattle.field.proofs.Xor.{⊕-zero-r, ⊕-zero-l}
-use Rattle.field.proofs.OrderOfTwo.{mul-mod, order-lt, order-mod, order-pos, one-iff}
 use Rattle.code.specs.Answer.{Conditions, firstOf, settle}
-use Rattle.code.specs.Sheet.{lengthOf, representativeCount, representatives, certificateCount, Certificate, certificate}
-use Rattle.code.specs.Coset.{inCoset, inSet, definingSet, dimension}
+use Rattle.code.specs.Sheet.{codeLength, representativeCount, representatives, certificateCount, Certificate, certificate}
+use Rattle.code.specs.Coset.{inSet, definingSet, dimension}
 use Rattle.code.specs.Generator.{addPoly, timesRoot, rootProduct, generatorPoly, maskOfPoly, generator}
 use Rattle.code.specs.Certificate.{distance, radius, working}
 use Rattle.code.specs.Judge.{sheetConditions, judgeConditions, dimensionOf, workingOf, workingCertificate, judgeOf}
@@ -73,42 +71,6 @@ pub radius-most : (sheet : List ℕ) (c : ℕ) → c < certificateCount sheet
     → radius (certificate sheet c) ≤ radius (workingCertificate sheet)
 unfolding workingCertificate workingOf
 radius-most sheet c h = working-most (certificateCount sheet) (λ c. radius (certificate sheet c)) c h .1
-
--- ---- the defining set
-module _ {n : ℕ} (o : OddLength n) where
-  round : (r j : ℕ) → r * 2 ^ (j + orderOfTwo n) % n ≡ r * 2 ^ j % n
-  round r j =
-      ap (λ (x : ℕ). x % n)
-      (ap (λ (x : ℕ). r * x) (pow-add 2 j (orderOfTwo n)) ∙ sym (mul-assoc r (2 ^ j) (2 ^ orderOfTwo n))
-      ∙ mul-comm (r * 2 ^ j) (2 ^ orderOfTwo n))
-      ∙ sym (mul-mod (2 ^ orderOfTwo n) (r * 2 ^ j) n)
-      ∙ ap (λ (x : ℕ). x * (r * 2 ^ j) % n) (one-iff o (orderOfTwo n) .1 (order-mod o))
-      ∙ ap (λ (x : ℕ). x % n) (one-mul (r * 2 ^ j))
-
-  doubled : (r i j : ℕ) → r * 2 ^ j % n ≡ i → r * 2 ^ suc j % n ≡ i * 2 % n
-  doubled r i j e =
-      ap (λ (x : ℕ). x % n) (ap (λ (x : ℕ). r * x) (pow-suc 2 j) ∙ sym (mul-assoc r (2 ^ j) 2)) ∙ sym (mul-mod (r * 2 ^ j) 2 n)
-      ∙ ap (λ (x : ℕ). x * 2 % n) e
-
-  pub coset-doubles : (r i : ℕ) → inCoset n r i ≡ true → inCoset n r (i * 2 % n) ≡ true
-  unfolding inCoset
-  coset-doubles r i e =
-      let f = some-at (λ j. eqb (r * 2 ^ j % n) i) n e in
-      let j : ℕ = f .0 in
-      let next : r * 2 ^ suc j % n ≡ i * 2 % n = doubled r i j (eqb-true (r * 2 ^ j % n) i (f .2)) in
-      let s : ℕ = orderOfTwo n in
-      let test : ℕ → Bool = λ j. eqb (r * 2 ^ j % n) (i * 2 % n) in
-      elim (decLt (suc j) n) [
-        | yes l ↦ some-of test n (suc j) l (eq-eqb (r * 2 ^ suc j % n) (i * 2 % n) next)
-        | no l ↦ (let k : suc j - s + s ≡ suc j = omega (arith, order-lt o) in
-            some-of test n (suc j - s) (omega (arith, order-pos n, f .1))
-            (eq-eqb (r * 2 ^ (suc j - s) % n) (i * 2 % n)
-            (sym (round r (suc j - s)) ∙ ap (λ (x : ℕ). r * 2 ^ x % n) k ∙ next)))
-      ]
-
-  pub set-doubles : (reps : List ℕ) (i : ℕ) → inSet n reps i ≡ true → inSet n reps (i * 2 % n) ≡ true
-  unfolding inSet
-  set-doubles reps i e = some-map (λ r. inCoset n r i) (λ r. inCoset n r (i * 2 % n)) (λ r. coset-doubles r i) reps e
 
 -- ---- the generator
 pub add-at : (p q : List ℕ) (i : ℕ) → getD (addPoly p q) i 0 ≡ getD p i 0 ⊕ getD q i 0
@@ -169,16 +131,16 @@ none : (sheet : List ℕ) → representativeCount sheet ≡ 0 → representative
 unfolding representatives
 none sheet e = ap (λ (r : ℕ). take r (drop 10 sheet)) e
 
-pub empty-dimension : (sheet : List ℕ) → representativeCount sheet ≡ 0 → dimensionOf sheet ≡ lengthOf sheet
+pub empty-dimension : (sheet : List ℕ) → representativeCount sheet ≡ 0 → dimensionOf sheet ≡ codeLength sheet
 unfolding dimensionOf dimension
 empty-dimension sheet e =
-    ap (dimension (lengthOf sheet)) (none sheet e) ∙ ap (λ l. lengthOf sheet - length l) (empty-set (lengthOf sheet))
-    ∙ sub-zero (lengthOf sheet)
+    ap (dimension (codeLength sheet)) (none sheet e) ∙ ap (λ l. codeLength sheet - length l) (empty-set (codeLength sheet))
+    ∙ sub-zero (codeLength sheet)
 
 pub empty-generator : (sheet : List ℕ) → representativeCount sheet ≡ 0 → generatorOf sheet ≡ 1
 unfolding generatorOf generator generatorPoly rootProduct maskOfPoly total
 empty-generator sheet e =
-    let n : ℕ = lengthOf sheet in
+    let n : ℕ = codeLength sheet in
     ap (generator n) (none sheet e) ∙ ap (λ l. maskOfPoly (rootProduct (orderOfTwo n) (α (orderOfTwo n) n) l)) (empty-set n)
 
 -- ---- accepted sheets

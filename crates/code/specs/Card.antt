@@ -12,7 +12,7 @@ use lib.ListN.{length, drop}
 use Rattle.field.specs.Search.{upTo}
 use Rattle.field.specs.Field.{orderOfTwo}
 use Rattle.code.specs.Answer.{Answer, returned, firstOf}
-use Rattle.code.specs.Sheet.{lengthOf, representatives, certificateCount, certificate}
+use Rattle.code.specs.Sheet.{codeLength, representatives, certificateCount, certificate}
 use Rattle.code.specs.Coset.{definingSet}
 use Rattle.code.specs.Generator.{generatorPoly}
 use Rattle.code.specs.Certificate.{distance, radius}
@@ -36,18 +36,18 @@ newline = 10 ∷ []
 -- "code", n, k, s
 unfoldable pub codeLine : List ℕ → List ℕ
 codeLine sheet =
-    (99 ∷ 111 ∷ 100 ∷ 101 ∷ []) ++ spaced (lengthOf sheet) ++ spaced (dimensionOf sheet) ++ spaced (orderOfTwo (lengthOf sheet)) ++ newline
+    (99 ∷ 111 ∷ 100 ∷ 101 ∷ []) ++ spaced (codeLength sheet) ++ spaced (dimensionOf sheet) ++ spaced (orderOfTwo (codeLength sheet)) ++ newline
 
 -- "zeros", D rising ("nothing after `zeros` if it is empty")
 unfoldable pub zerosLine : List ℕ → List ℕ
 zerosLine sheet =
-    (122 ∷ 101 ∷ 114 ∷ 111 ∷ 115 ∷ []) ++ flatMap spaced (definingSet (lengthOf sheet) (representatives sheet)) ++ newline
+    (122 ∷ 101 ∷ 114 ∷ 111 ∷ 115 ∷ []) ++ flatMap spaced (definingSet (codeLength sheet) (representatives sheet)) ++ newline
 
 -- "generator", and after one space "the generator from x^0 up"
 unfoldable pub generatorLine : List ℕ → List ℕ
 generatorLine sheet =
     (103 ∷ 101 ∷ 110 ∷ 101 ∷ 114 ∷ 97 ∷ 116 ∷ 111 ∷ 114 ∷ 32 ∷ [])
-    ++ map (λ c. 48 + c) (generatorPoly (lengthOf sheet) (representatives sheet)) ++ newline
+    ++ map (λ c. 48 + c) (generatorPoly (codeLength sheet) (representatives sheet)) ++ newline
 
 -- "cert", index, "terms", L, "distance", d
 unfoldable pub certificateLine : List ℕ → ℕ → List ℕ
@@ -78,6 +78,6 @@ listingFor (suc r) sheet = refusedLine (suc r)
 unfoldable pub listing : List ℕ → List ℕ
 listing sheet = listingFor (firstOf (judgeConditions sheet)) sheet
 
--- the listing, and what stood after its end
+-- The listing, and what stood after its end. The lent buffer has 1,024 bytes, more than any listing takes.
 unfoldable pub cardOf : List ℕ → List ℕ → Answer × List ℕ
 cardOf sheet out = (returned (length (listing sheet) ∷ []), listing sheet ++ drop (length (listing sheet)) out)

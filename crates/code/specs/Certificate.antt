@@ -23,7 +23,7 @@ rule1 n c =
     && (leb 1 (degree (c .f)) && leb (degree (c .f)) 8 && eqb (coefficient 0 (c .f)) 1)
     && (not (eqb (c .h) 0) && ltb (degree (c .h)) (degree (c .f)))
     && (leb 1 (c .L) && leb (c .L) 1023)
-    && eqb (c .zero) 0
+    && eqb (c .zeroByte) 0
 
 -- "2. h and f have no common factor"
 unfoldable pub rule2 : Certificate → Bool

@@ -13,13 +13,13 @@ use lib.Dec.{eqb}
 use lib.ListN.{length}
 use Rattle.code.specs.Answer.{Answer, Conditions, firstOf, settle}
 use Rattle.code.specs.Layout.{wordWeight, messageWeight, bytesFor, maskOf, bytesOf, spare}
-use Rattle.code.specs.Sheet.{lengthOf, representatives}
+use Rattle.code.specs.Sheet.{codeLength, representatives}
 use Rattle.code.specs.Generator.{generator, isCodeword, encodeMask, messageOf, differences, nearest}
 use Rattle.code.specs.Certificate.{radius}
 use Rattle.code.specs.Judge.{judgeConditions, dimensionOf, workingCertificate}
 
 unfoldable pub generatorOf : List ℕ → ℕ
-generatorOf sheet = generator (lengthOf sheet) (representatives sheet)
+generatorOf sheet = generator (codeLength sheet) (representatives sheet)
 
 unfoldable pub radiusOf : List ℕ → ℕ
 radiusOf sheet = radius (workingCertificate sheet)
@@ -28,57 +28,57 @@ radiusOf sheet = radius (workingCertificate sheet)
 abbrev pub wrongSize : ℕ → List ℕ → Bool
 wrongSize places buffer = not (eqb (length buffer) (bytesFor places))
 
--- ---- encoding: 12 is "a spare bit of an input is 1"
+-- ---- encoding: 12 is "a spare bit of an input is 1". What is returned document 01 does not say: 0, as no place changed.
 unfoldable pub encodeConditions : List ℕ → List ℕ → List ℕ → Conditions
 encodeConditions sheet message out =
     (11, wrongSize (dimensionOf sheet) message)
-    ∷ (11, wrongSize (lengthOf sheet) out)
+    ∷ (11, wrongSize (codeLength sheet) out)
     ∷ (12, spare messageWeight (dimensionOf sheet) message)
     ∷ []
 
 unfoldable pub encodedWord : List ℕ → List ℕ → ℕ
 encodedWord sheet message =
     let k : ℕ = dimensionOf sheet in
-    encodeMask (lengthOf sheet - k) (generatorOf sheet) (maskOf messageWeight k message)
+    encodeMask (codeLength sheet - k) (generatorOf sheet) (maskOf messageWeight k message)
 
 unfoldable pub encodeOf : List ℕ → List ℕ → List ℕ → Answer × List ℕ
 encodeOf sheet message out =
     settle (firstOf (judgeConditions sheet ++ encodeConditions sheet message out)) (0 ∷ [])
-    (bytesOf wordWeight (lengthOf sheet) (encodedWord sheet message)) out
+    (bytesOf wordWeight (codeLength sheet) (encodedWord sheet message)) out
 
 -- ---- reading out: 14 is "the word is no codeword"
 abbrev pub wordOf : List ℕ → List ℕ → ℕ
-wordOf sheet word = maskOf wordWeight (lengthOf sheet) word
+wordOf sheet word = maskOf wordWeight (codeLength sheet) word
 
 unfoldable pub readConditions : List ℕ → List ℕ → List ℕ → Conditions
 readConditions sheet word out =
-    (11, wrongSize (lengthOf sheet) word)
+    (11, wrongSize (codeLength sheet) word)
     ∷ (11, wrongSize (dimensionOf sheet) out)
-    ∷ (12, spare wordWeight (lengthOf sheet) word)
-    ∷ (14, not (isCodeword (lengthOf sheet - dimensionOf sheet) (generatorOf sheet) (wordOf sheet word)))
+    ∷ (12, spare wordWeight (codeLength sheet) word)
+    ∷ (14, not (isCodeword (codeLength sheet - dimensionOf sheet) (generatorOf sheet) (wordOf sheet word)))
     ∷ []
 
 unfoldable pub readOf : List ℕ → List ℕ → List ℕ → Answer × List ℕ
 readOf sheet word out =
     let k : ℕ = dimensionOf sheet in
     settle (firstOf (judgeConditions sheet ++ readConditions sheet word out)) (0 ∷ [])
-    (bytesOf messageWeight k (messageOf (lengthOf sheet - k) (wordOf sheet word))) out
+    (bytesOf messageWeight k (messageOf (codeLength sheet - k) (wordOf sheet word))) out
 
 -- ---- decoding: the message of the codeword that differs from the received word in at most t places, if there is one
 unfoldable pub nearestMessage : List ℕ → List ℕ → ℕ
 nearestMessage sheet word =
     let k : ℕ = dimensionOf sheet in
-    nearest k (lengthOf sheet - k) (generatorOf sheet) (lengthOf sheet) (radiusOf sheet) (wordOf sheet word)
+    nearest k (codeLength sheet - k) (generatorOf sheet) (codeLength sheet) (radiusOf sheet) (wordOf sheet word)
 
 unfoldable pub decodedWord : List ℕ → List ℕ → ℕ
-decodedWord sheet word = encodeMask (lengthOf sheet - dimensionOf sheet) (generatorOf sheet) (nearestMessage sheet word)
+decodedWord sheet word = encodeMask (codeLength sheet - dimensionOf sheet) (generatorOf sheet) (nearestMessage sheet word)
 
 -- 13: "no codeword within t places"
 unfoldable pub decodeConditions : List ℕ → List ℕ → List ℕ → Conditions
 decodeConditions sheet word out =
-    (11, wrongSize (lengthOf sheet) word)
-    ∷ (11, wrongSize (lengthOf sheet) out)
-    ∷ (12, spare wordWeight (lengthOf sheet) word)
+    (11, wrongSize (codeLength sheet) word)
+    ∷ (11, wrongSize (codeLength sheet) out)
+    ∷ (12, spare wordWeight (codeLength sheet) word)
     ∷ (13, eqb (nearestMessage sheet word) (2 ^ dimensionOf sheet))
     ∷ []
 
@@ -87,5 +87,5 @@ decodeConditions sheet word out =
 unfoldable pub decodeOf : List ℕ → List ℕ → List ℕ → Answer × List ℕ
 decodeOf sheet word out =
     settle (firstOf (judgeConditions sheet ++ decodeConditions sheet word out))
-    (differences (lengthOf sheet) (wordOf sheet word) (decodedWord sheet word) ∷ [])
-    (bytesOf wordWeight (lengthOf sheet) (decodedWord sheet word)) out
+    (differences (codeLength sheet) (wordOf sheet word) (decodedWord sheet word) ∷ [])
+    (bytesOf wordWeight (codeLength sheet) (decodedWord sheet word)) out

@@ -1,4 +1,4 @@
--- The generator, codewords, encoding and reading out, on masks; and decoding, by search through all codewords.
+-- The generator, codewords, encoding and reading out, on masks; and what decoding is to find, said with no way to find it.
 --
 --   timesRoot s a p            the polynomial p over the field, low coefficient first, times x - a
 --   generatorPoly n reps       the product of x - α^i over D
@@ -58,6 +58,7 @@ messageOf m c = c / 2 ^ m
 unfoldable pub differences : ℕ → ℕ → ℕ → ℕ
 differences n a b = total n (λ i. coefficient i (a ⊕ b))
 
--- through the 2^k messages
+-- All 2^k messages are gone through: this says what is right, and never runs. That no two codewords lie within t of one word
+-- is a theorem.
 unfoldable pub nearest : ℕ → ℕ → ℕ → ℕ → ℕ → ℕ → ℕ
 nearest k m g n t r = least (λ message. leb (differences n r (encodeMask m g message)) t) (2 ^ k)

@@ -14,7 +14,7 @@ use lib.ListN.{length, getD}
 use Rattle.field.specs.Search.{upTo, some}
 use Rattle.field.specs.Field.{orderOfTwo}
 use Rattle.code.specs.Answer.{Answer, Conditions, firstOf, settle}
-use Rattle.code.specs.Sheet.{statedLength, lengthOf, representativeCount, representativesAt, certificateCount, zeroOf}
+use Rattle.code.specs.Sheet.{statedLength, codeLength, representativeCount, representativesAt, certificateCount, zeroOf}
 use Rattle.code.specs.Sheet.{certificatesAt, representatives, Certificate, certificate}
 use Rattle.code.specs.Coset.{smallest, dimension}
 use Rattle.code.specs.Certificate.{rule1, rule2, rule3, rule4, distance, radius, working}
@@ -25,11 +25,11 @@ wrongLength sheet = ltb (length sheet) 10 || ltb 74 (length sheet) || not (eqb (
 
 -- 2: "n even, below 3 or above 127"
 unfoldable pub wrongCodeLength : List ℕ → Bool
-wrongCodeLength sheet = eqb (lengthOf sheet % 2) 0 || ltb (lengthOf sheet) 3 || ltb 127 (lengthOf sheet)
+wrongCodeLength sheet = eqb (codeLength sheet % 2) 0 || ltb (codeLength sheet) 3 || ltb 127 (codeLength sheet)
 
 -- 3: "s above 12"
 unfoldable pub wrongDegree : List ℕ → Bool
-wrongDegree sheet = ltb 12 (orderOfTwo (lengthOf sheet))
+wrongDegree sheet = ltb 12 (orderOfTwo (codeLength sheet))
 
 -- 4: "a count, offset, byte 7 or the length formula is wrong". "The length is 10 + R + 8·C."
 unfoldable pub wrongHeader : List ℕ → Bool
@@ -44,7 +44,7 @@ wrongHeader sheet =
 -- 5: "a representative isn't below n, smallest in its coset, or above the one before"
 unfoldable pub wrongRepresentative : List ℕ → Bool
 wrongRepresentative sheet =
-    let n : ℕ = lengthOf sheet in
+    let n : ℕ = codeLength sheet in
     let r : List ℕ = representatives sheet in
     some
     (λ i. not (ltb (getD r i 0) n)
@@ -53,7 +53,7 @@ wrongRepresentative sheet =
 
 -- k of the sheet's code
 unfoldable pub dimensionOf : List ℕ → ℕ
-dimensionOf sheet = dimension (lengthOf sheet) (representatives sheet)
+dimensionOf sheet = dimension (codeLength sheet) (representatives sheet)
 
 -- 6: "k is 0"
 unfoldable pub noMessage : List ℕ → Bool
@@ -72,10 +72,10 @@ sheetConditions sheet =
 -- 7 to 10: a rule fails
 unfoldable pub certificateConditions : List ℕ → ℕ → Conditions
 certificateConditions sheet c =
-    (7, not (rule1 (lengthOf sheet) (certificate sheet c)))
+    (7, not (rule1 (codeLength sheet) (certificate sheet c)))
     ∷ (8, not (rule2 (certificate sheet c)))
-    ∷ (9, not (rule3 (lengthOf sheet) (certificate sheet c)))
-    ∷ (10, not (rule4 (lengthOf sheet) (representatives sheet) (certificate sheet c)))
+    ∷ (9, not (rule3 (codeLength sheet) (certificate sheet c)))
+    ∷ (10, not (rule4 (codeLength sheet) (representatives sheet) (certificate sheet c)))
     ∷ []
 
 -- "The sheet's conditions are tried in the order 1 to 6, then for each certificate in turn 7 to 10."
@@ -93,15 +93,15 @@ workingCertificate sheet = certificate sheet (workingOf sheet)
 unfoldable pub recordOf : List ℕ → List ℕ
 recordOf sheet =
     let c : Certificate = workingCertificate sheet in
-    lengthOf sheet
+    codeLength sheet
     ∷ dimensionOf sheet
-    ∷ orderOfTwo (lengthOf sheet)
+    ∷ orderOfTwo (codeLength sheet)
     ∷ workingOf sheet
     ∷ distance c
     ∷ radius c
     ∷ c .L
     ∷ []
 
--- "A sheet that draws none of 1 to 10 is accepted."
+-- "A sheet that draws none of 1 to 10 is accepted." No buffer is lent for judging.
 unfoldable pub judgeOf : List ℕ → Answer
 judgeOf sheet = settle (firstOf (judgeConditions sheet)) (recordOf sheet) [] [] .0

@@ -1,7 +1,7 @@
 -- The code sheet, field by field: "A header of counts and offsets, 16-bit numbers low byte first". A sheet is its bytes.
 --
 --   byteAt, numberAt                  a byte, and a 16-bit number
---   statedLength, lengthOf .. zeroOf, certificatesAt     the header's fields
+--   statedLength, codeLength .. zeroOf, certificatesAt     the header's fields
 --   representatives                   its R representatives
 --   Certificate, certificate s c      the eight bytes of certificate c, taken apart
 use mathlib.Core.List.{List}
@@ -19,8 +19,8 @@ unfoldable pub statedLength : List ℕ → ℕ
 statedLength sheet = numberAt sheet 0
 
 -- 2: n
-unfoldable pub lengthOf : List ℕ → ℕ
-lengthOf sheet = byteAt sheet 2
+unfoldable pub codeLength : List ℕ → ℕ
+codeLength sheet = byteAt sheet 2
 
 -- 3: R, number of representatives, 0 to 32
 unfoldable pub representativeCount : List ℕ → ℕ
@@ -52,7 +52,7 @@ pub record Certificate : Type 0 where
   pub z : ℕ
   pub f : ℕ
   pub h : ℕ
-  pub zero : ℕ
+  pub zeroByte : ℕ
   pub L : ℕ
 
 abbrev certificateIn : List ℕ → ℕ → Certificate
@@ -61,7 +61,7 @@ certificateIn sheet i = record {
   z = byteAt sheet (i + 1);
   f = numberAt sheet (i + 2);
   h = byteAt sheet (i + 4);
-  zero = byteAt sheet (i + 5);
+  zeroByte = byteAt sheet (i + 5);
   L = numberAt sheet (i + 6);
 }
 

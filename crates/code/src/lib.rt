@@ -1,3 +1,4 @@
 // Everything document 01 says of sheets, certificates, words and messages.
+pub mod cosets;
 pub mod sheet;
 pub mod types;

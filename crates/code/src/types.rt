@@ -39,9 +39,3 @@ pub enum Reply {
     Done(usize),
     Refused(Refusal),
 }
-
-// What a stage of judging says: nothing yet, or a refusal.
-pub enum Stage {
-    Pass,
-    Fail(Refusal),
-}

@@ -5,10 +5,11 @@
 --   least-most          it is at most any number that passes
 --   keep-one            where one number below n passes, that one is kept; keep-none: where none does, none
 --   some-at, some-of, some-none     some number below n passes exactly when there is one; none does where `some` says so
+--   some-false                      none passes where each fails; some-append: of two lists
 --   some-map                        what follows from a test follows for a list
 --   every-at, every-of              all numbers below n pass exactly when each does
 --   length-upTo, length-keep        lengths
---   total-z, total-s, total-ext     sums
+--   total-z, total-s, total-more, total-ext     sums
 use mathlib.Core.Path.{_≡_, refl, sym, ap, ap₂, _∙_}
 use mathlib.Core.Logic.{_≢_, _⊎_, inl, inr}
 use mathlib.Core.Bool.{Bool, true, false, _&&_, _||_}
@@ -104,7 +105,7 @@ upTo-suc : (n : ℕ) → upTo (suc n) ≡ upTo n ++ (n ∷ [])
 unfolding upTo
 upTo-suc n = refl
 
-keep-suc : (test : ℕ → Bool) (n : ℕ) → keep test (upTo (suc n)) ≡ keep test (upTo n) ++ keep test (n ∷ [])
+pub keep-suc : (test : ℕ → Bool) (n : ℕ) → keep test (upTo (suc n)) ≡ keep test (upTo n) ++ keep test (n ∷ [])
 keep-suc test n = ap (keep test) (upTo-suc n) ∙ keep-append test (upTo n) (n ∷ [])
 
 pub keep-none : (test : ℕ → Bool) (n : ℕ) → ((k : ℕ) → k < n → test k ≡ false) → keep test (upTo n) ≡ []
@@ -150,7 +151,7 @@ and-true : (a : Bool) → a && true ≡ a
 and-true true = refl
 and-true false = refl
 
-some-append : (test : ℕ → Bool) (l m : List ℕ) → some test (l ++ m) ≡ some test l || some test m
+pub some-append : (test : ℕ → Bool) (l m : List ℕ) → some test (l ++ m) ≡ some test l || some test m
 unfolding some
 some-append test [] m = refl
 some-append test (x ∷ l) m = ap (λ b. test x || b) (some-append test l m) ∙ go (test x) (some test l) (some test m)
@@ -206,6 +207,11 @@ some-of test n k h e = go (some test (upTo n)) refl
     go true q = q
     go false q = absurd (true-ne-false e (some-none test n q k h))
 
+pub some-false : (test : ℕ → Bool) (n : ℕ) → ((k : ℕ) → k < n → test k ≡ false) → some test (upTo n) ≡ false
+some-false test zero h = some-zero test
+some-false test (suc n) h =
+    some-suc test n ∙ ap₂ _||_ (some-false test n (λ k l. h k (omega arith))) (h n (omega arith))
+
 pub every-at : (test : ℕ → Bool) (n : ℕ) → every test (upTo n) ≡ true → (k : ℕ) → k < n → test k ≡ true
 every-at test zero e k h = absurd (omega arith)
 every-at test (suc n) e k h =
@@ -248,6 +254,9 @@ total-z term = refl
 pub total-s : (n : ℕ) (term : ℕ → ℕ) → total (suc n) term ≡ total n term + term n
 unfolding total
 total-s n term = refl
+
+pub total-more : (n : ℕ) (term : ℕ → ℕ) {x : ℕ} → x ≡ total n term → x + term n ≡ total (n + 1) term
+total-more n term e = ap (λ (y : ℕ). y + term n) e ∙ sym (ap (λ (k : ℕ). total k term) (add-one n) ∙ total-s n term)
 
 pub total-ext : (n : ℕ) (f g : ℕ → ℕ) → ((i : ℕ) → i < n → f i ≡ g i) → total n f ≡ total n g
 total-ext zero f g h = total-z f ∙ sym (total-z g)

@@ -52,7 +52,7 @@ abbrev pub ω : ℕ
 unfoldable pub α : ℕ → ℕ → ℕ
 α s n = fieldPower s ω ((2 ^ s - 1) / n)
 
--- "s is the smallest number above 0 with n dividing 2^s - 1." No n has one above n.
+-- "s is the smallest number above 0 with n dividing 2^s - 1." An odd n has one below n; where there is none, this is n + 1.
 unfoldable pub orderOfTwo : ℕ → ℕ
 orderOfTwo n = suc (least (λ j. eqb ((2 ^ suc j - 1) % n) 0) n)
 

@@ -4,7 +4,7 @@ ghost use Prim.Native.Nat.{_+_, _*_, _%_, _^_, _<_, _≤_};
 ghost use Rattle.field.specs.Field.{OddLength, orderOfTwo};
 
 // 2 x modulo n, with no division.
-fn twice(n: usize, x: usize) -> usize
+pub fn twice(n: usize, x: usize) -> usize
     requires { ⌜ OddLength n × (x < n) ⌝ }
     ensures { λ r. ⌜ r ≡ x * 2 % n ⌝ }
 {

@@ -28,7 +28,7 @@ divides d a = eqb (remainder (degree d) d a) 0
 unfoldable pub common : ℕ → ℕ → Bool
 common f h = some (λ d. divides (d + 2) f && divides (d + 2) h) (upTo (2 ^ size f - 2))
 
--- A mask of degree u with constant term 1 has a period below 2^u, or of 1 for u = 1.
+-- A mask of degree u above 0 with constant term 1 has a period below 2^u.
 unfoldable pub period : ℕ → ℕ
 period f = suc (least (λ j. divides f (2 ^ suc j ⊕ 1)) (2 ^ degree f))
 

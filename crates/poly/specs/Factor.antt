@@ -5,10 +5,13 @@
 --   divides d a               the mask d divides the mask a
 --   common f h                some mask of degree 1 or more divides both
 --   period f                  the smallest p above 0 for which f divides x^p + 1
+--   Modulus f u               f has degree u, 1 to 8, and constant term 1
 --   terms f h L               the first L terms of the power series h/f
+--   Ratio f h                 h/f is such a series: f of degree 1 to 8 with constant term 1, h not 0 and of smaller degree
+use mathlib.Core.Path.{_≡_}
 use mathlib.Core.Bool.{Bool, not, _&&_}
 use mathlib.Core.List.{List, [], _∷_, _++_}
-use Prim.Native.Nat.{ℕ, zero, suc, _+_, _-_, _*_, _%_, _^_}
+use Prim.Native.Nat.{ℕ, zero, suc, _+_, _-_, _*_, _%_, _^_, _≤_, _<_}
 use lib.Dec.{eqb}
 use lib.ListN.{getD}
 use Rattle.field.specs.Search.{least, upTo, some, every, total}
@@ -38,3 +41,16 @@ terms f h zero = []
 terms f h (suc j) =
     let a : List ℕ = terms f h j in
     a ++ ((coefficient j h + total j (λ i. coefficient (j - i) f * getD a i 0)) % 2 ∷ [])
+
+pub record Ratio (f h : ℕ) : Type 0 where
+  pub two : 2 ≤ f
+  pub cap : f < 512
+  pub odd : f % 2 ≡ 1
+  pub pos : 0 < h
+  pub proper : h < 2 ^ degree f
+
+pub record Modulus (f u : ℕ) : Type 0 where
+  pub is : u ≡ degree f
+  pub lo : 1 ≤ u
+  pub hi : u ≤ 8
+  pub odd : f % 2 ≡ 1

@@ -23,7 +23,7 @@ use Rattle.code.specs.Sheet.{certificatesAt, representatives, certificat
 use Rattle.code.specs.Coset.{inCoset, smallest, inSet, definingSet, dimension}
 use Rattle.code.specs.Generator.{addPoly, timesRoot, rootProduct, generatorPoly, maskOfPoly, generator, isCodeword}
 use Rattle.code.specs.Generator.{encodeMask, messageOf, differences, nearest}
-use Rattle.code.specs.Certificate.{rule1, rule2, rule3, rule4, distance, radius, working}
+use Rattle.code.specs.Certificate.{steps, ratio, extent, rule1, rule2, rule3, rule4, distance, radius, working}
 use Rattle.code.specs.Judge.{wrongLength, wrongCodeLength, wrongDegree, wrongHeader, wrongRepresentative, noMessage}
 use Rattle.code.specs.Judge.{sheetConditions, certificateConditions, judgeConditions, dimensionOf, workingOf}
 use Rattle.code.specs.Judge.{workingCertificate}
@@ -40,7 +40,7 @@ unfolding leastFrom least upTo keep some every total _⊕_ size productBelow clm
     spare statedLength codeLength representativeCount representativesAt certificateCount zeroOf certificatesAt
     representatives certificate inCoset smallest inSet definingSet dimension addPoly timesRoot rootProduct generatorPoly
     maskOfPoly generator isCodeword encodeMask messageOf differences nearest degree coprime divides common period terms
-    rule1 rule2 rule3 rule4 distance radius working wrongLength wrongCodeLength wrongDegree wrongHeader
+    steps ratio extent rule1 rule2 rule3 rule4 distance radius working wrongLength wrongCodeLength wrongDegree wrongHeader
     wrongRepresentative noMessage sheetConditions certificateConditions judgeConditions dimensionOf workingOf
     workingCertificate recordOf judgeOf generatorOf radiusOf encodeConditions encodedWord encodeOf readConditions readOf
     nearestMessage decodedWord decodeConditions decodeOf flatMap

@@ -2,5 +2,6 @@
 pub mod Cases
 pub mod DefiningSet
 pub mod Listed
+pub mod Ranges
 pub mod Sane
 pub mod Header

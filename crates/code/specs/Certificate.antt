@@ -1,5 +1,6 @@
 -- The certificate (document 001, with step z): its rules, its distance, the working one.
 --
+--   steps, ratio, extent      the parts of rule 1
 --   rule1 .. rule4            the four rules
 --   distance, radius          d and t of a certificate
 --   working count t           the first of the largest of t 0, t 1, .. below count
@@ -14,16 +15,22 @@ use Rattle.poly.specs.Factor.{coprime, degree, common, period, terms}
 use Rattle.code.specs.Sheet.{Certificate}
 use Rattle.code.specs.Coset.{inSet}
 
--- "1. b is below n; z is 1 to n - 1 and coprime to n; u is 1 to 8 and f has constant term 1; h isn't 0 and v < u;
+-- "1. b is below n; z is 1 to n - 1 and coprime to n;
+unfoldable pub steps : ℕ → Certificate → Bool
+steps n c = ltb (c .b) n && leb 1 (c .z) && leb (c .z) (n - 1) && coprime (c .z) n
+
+-- u is 1 to 8 and f has constant term 1; h isn't 0 and v < u;
+unfoldable pub ratio : Certificate → Bool
+ratio c =
+    leb 1 (degree (c .f)) && leb (degree (c .f)) 8 && eqb (coefficient 0 (c .f)) 1 && not (eqb (c .h) 0)
+    && ltb (degree (c .h)) (degree (c .f))
+
 -- L is 1 to 1,023; its zero byte on the sheet is 0"
+unfoldable pub extent : Certificate → Bool
+extent c = leb 1 (c .L) && leb (c .L) 1023 && eqb (c .zeroByte) 0
+
 unfoldable pub rule1 : ℕ → Certificate → Bool
-rule1 n c =
-    ltb (c .b) n
-    && (leb 1 (c .z) && leb (c .z) (n - 1) && coprime (c .z) n)
-    && (leb 1 (degree (c .f)) && leb (degree (c .f)) 8 && eqb (coefficient 0 (c .f)) 1)
-    && (not (eqb (c .h) 0) && ltb (degree (c .h)) (degree (c .f)))
-    && (leb 1 (c .L) && leb (c .L) 1023)
-    && eqb (c .zeroByte) 0
+rule1 n c = steps n c && ratio c && extent c
 
 -- "2. h and f have no common factor"
 unfoldable pub rule2 : Certificate → Bool

@@ -1,17 +1,23 @@
 -- What the inner functions of judging pass to each other. No entry's contract cites this file.
 --
 --   Headed sheet       what the header of a sheet that draws none of 1 to 4 satisfies
+--   certificateAs, Fits      a certificate of the code as one of the definitions, and its bounds
+--   checkedAs          what a certificate's check means in the paper's numbers
 --   Marks n reps z     z holds 1 at each member of D, else 0
 --   Marked n r z z′ low      z′ is z with the coset of r marked; low is 0 exactly where r is its smallest
 --   Found sheet z r    r says whether refusal 5 is drawn; where it is not, z marks D
 use mathlib.Core.Path.{_≡_}
 use mathlib.Core.Bool.{Bool, true, false}
-use mathlib.Core.List.{List}
+use mathlib.Core.List.{List, [], _∷_}
 use Prim.Native.Nat.{ℕ, _+_, _*_, _%_, _≤_, _<_}
 use lib.Dec.{ltb}
 use lib.ListN.{length, getD}
 use Rattle.field.specs.Field.{orderOfTwo}
-use Rattle.code.specs.Sheet.{codeLength, representativeCount, representatives, certificateCount}
+use Rattle.code.specs.declared.types.Certificate.{Certificate as CodeCertificate}
+use Rattle.code.specs.declared.types.Checked.{Checked}
+use Rattle.code.specs.declared.types.Checked.the-variants.{Distance, Refused}
+use Rattle.code.specs.Answer.{Answer, returned, refused, numberOf}
+use Rattle.code.specs.Sheet.{Certificate, codeLength, representativeCount, representatives, certificateCount}
 use Rattle.code.specs.Coset.{inCoset, smallest, inSet}
 use Rattle.code.specs.Judge.{wrongRepresentative}
 
@@ -24,6 +30,22 @@ pub record Headed (sheet : List ℕ) : Type 0 where
   pub one : 1 ≤ certificateCount sheet
   pub four : certificateCount sheet ≤ 4
   pub long : length sheet ≡ 10 + representativeCount sheet + 8 * certificateCount sheet
+
+-- a certificate of the code as one of the definitions
+abbrev pub certificateAs : CodeCertificate → Certificate
+certificateAs c = record { b = c .b; z = c .z; f = c .f; h = c .h; zeroByte = c .zero; L = c .terms }
+
+-- what bytes and 16-bit numbers are below
+pub record Fits (c : CodeCertificate) : Type 0 where
+  pub b : c .b < 256
+  pub z : c .z < 256
+  pub f : c .f < 65536
+  pub h : c .h < 256
+  pub terms : c .terms < 65536
+
+abbrev pub checkedAs : Checked → Answer
+checkedAs (Distance d) = returned (d ∷ [])
+checkedAs (Refused r) = refused (numberOf r)
 
 -- 1 or 0
 abbrev pub bit : Bool → ℕ

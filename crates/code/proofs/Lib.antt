@@ -3,5 +3,6 @@ pub mod Cases
 pub mod DefiningSet
 pub mod Listed
 pub mod Ranges
+pub mod Terms
 pub mod Sane
 pub mod Header

@@ -2,23 +2,26 @@
 --
 --   Headed sheet       what the header of a sheet that draws none of 1 to 4 satisfies
 --   certificateAs, Fits      a certificate of the code as one of the definitions, and its bounds
+--   Walkable, Ruled    what the walk over the terms needs, and says
 --   checkedAs          what a certificate's check means in the paper's numbers
 --   Marks n reps z     z holds 1 at each member of D, else 0
 --   Marked n r z z′ low      z′ is z with the coset of r marked; low is 0 exactly where r is its smallest
 --   Found sheet z r    r says whether refusal 5 is drawn; where it is not, z marks D
 use mathlib.Core.Path.{_≡_}
-use mathlib.Core.Bool.{Bool, true, false}
+use mathlib.Core.Bool.{Bool, true, false, not}
 use mathlib.Core.List.{List, [], _∷_}
-use Prim.Native.Nat.{ℕ, _+_, _*_, _%_, _≤_, _<_}
+use Prim.Native.Nat.{ℕ, suc, _+_, _*_, _%_, _^_, _≤_, _<_}
 use lib.Dec.{ltb}
 use lib.ListN.{length, getD}
 use Rattle.field.specs.Field.{orderOfTwo}
+use Rattle.poly.specs.Factor.{degree}
 use Rattle.code.specs.declared.types.Certificate.{Certificate as CodeCertificate}
 use Rattle.code.specs.declared.types.Checked.{Checked}
 use Rattle.code.specs.declared.types.Checked.the-variants.{Distance, Refused}
 use Rattle.code.specs.Answer.{Answer, returned, refused, numberOf}
 use Rattle.code.specs.Sheet.{Certificate, codeLength, representativeCount, representatives, certificateCount}
 use Rattle.code.specs.Coset.{inCoset, smallest, inSet}
+use Rattle.code.specs.Certificate.{rule4}
 use Rattle.code.specs.Judge.{wrongRepresentative}
 
 pub record Headed (sheet : List ℕ) : Type 0 where
@@ -68,3 +71,19 @@ pub record Marked (n r : ℕ) (z z′ : List ℕ) (low : ℕ) : Type 0 where
 pub record Found (sheet z : List ℕ) (wrong : Bool) : Type 0 where
   pub is : wrong ≡ wrongRepresentative sheet
   pub marks : wrong ≡ false → Marks (codeLength sheet) (representatives sheet) z
+
+-- what the walk over the terms needs: start and step below n, f of degree at most 8, h of smaller degree
+pub record Walkable (n : ℕ) (c : CodeCertificate) (z : List ℕ) : Type 0 where
+  pub most : n ≤ 127
+  pub start : c .b < n
+  pub step : c .z < n
+  pub odd : c .f % 2 ≡ 1
+  pub f-lt : c .f < 2 ^ suc (degree (c .f))
+  pub h-lt : c .h < 2 ^ degree (c .f)
+  pub small : degree (c .f) ≤ 8
+  pub few : c .terms ≤ 1023
+  pub long : n ≤ length z
+
+-- rule 4 over the set that z marks
+pub record Ruled (n : ℕ) (c : Certificate) (z : List ℕ) (wrong : Bool) : Type 0 where
+  pub is : (reps : List ℕ) → Marks n reps z → wrong ≡ not (rule4 n reps c)

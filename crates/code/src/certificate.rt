@@ -1,11 +1,12 @@
 // A certificate against rules 1 to 4: refusals 7 to 10, and its distance.
 ghost use mathlib.Core.Path.{_≡_};
 ghost use mathlib.Core.Bool.{true, not};
-ghost use Prim.Native.Nat.{_+_, _*_, _<_, _≤_};
+ghost use Prim.Native.Nat.{_+_, _*_, _/_, _%_, _<_, _≤_};
 ghost use lib.ListN.{length};
 ghost use Rattle.code.specs.Sheet.{representativeCount, certificateCount, «certificate» as certificateOf};
 ghost use Rattle.code.specs.Certificate.{steps, ratio, extent, rule1};
-ghost use Rattle.code.specs.Stage.{Headed, Fits, certificateAs};
+ghost use Rattle.code.specs.Stage.{Headed, Fits, Walkable, Ruled, certificateAs};
+ghost use Rattle.field.specs.Mask.{_⊕_};
 
 use crate::sheet::byte;
 use crate::sheet::number;
@@ -99,6 +100,42 @@ pub fn wrong_range(n: usize, c: Certificate) -> bool
     }
     if wrong_extent(c) {
         return true;
+    }
+    false
+}
+
+// The register of h/f after one term: its lowest coefficient is the term, and f times it is taken off before the shift.
+fn next_register(f: usize, num: usize) -> usize
+    requires { ⌜ (f < 512) × (num < 256) ⌝ }
+    ensures { λ r. ⌜ r ≡ (num ⊕ (num % 2) * f) / 2 ⌝ }
+{
+    if num % 2 == 1 { (num ^ f) / 2 } else { num / 2 }
+}
+
+// (at + z) mod n, with no division.
+fn step(n: usize, at: usize, z: usize) -> usize
+    requires { ⌜ (at < n) × (z < n) × (n ≤ 127) ⌝ }
+    ensures { λ r. ⌜ r ≡ (at + z) % n ⌝ }
+{
+    let next = at + z;
+    if next < n { next } else { next - n }
+}
+
+// Refusal 10: a term that is 1 at a place that is not in D.
+pub fn wrong_terms(n: usize, c: Certificate, zeros: &[u8]) -> bool
+    requires { ⌜ Walkable n c (now zeros) ⌝ }
+    ensures { λ r. ⌜ Ruled n (certificateAs c) (now (zeros .entry)) r ⌝ }
+{
+    let mut num = c.h;
+    let mut at = c.b;
+    let mut j: usize = 0;
+    while j < c.terms {
+        if (zeros[at] as usize) < num % 2 {
+            return true;
+        }
+        num = next_register(c.f, num);
+        at = step(n, at, c.z);
+        j = j + 1;
     }
     false
 }

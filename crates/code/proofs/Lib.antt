@@ -4,5 +4,6 @@ pub mod DefiningSet
 pub mod Listed
 pub mod Ranges
 pub mod Terms
+pub mod Checks
 pub mod Sane
 pub mod Header

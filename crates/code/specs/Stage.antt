@@ -3,6 +3,7 @@
 --   Headed sheet       what the header of a sheet that draws none of 1 to 4 satisfies
 --   certificateAs, Fits      a certificate of the code as one of the definitions, and its bounds
 --   Walkable, Ruled    what the walk over the terms needs, and says
+--   checkOf, Checkable      what the check of one certificate says, and needs
 --   checkedAs          what a certificate's check means in the paper's numbers
 --   Marks n reps z     z holds 1 at each member of D, else 0
 --   Marked n r z z′ low      z′ is z with the coset of r marked; low is 0 exactly where r is its smallest
@@ -18,11 +19,11 @@ use Rattle.poly.specs.Factor.{degree}
 use Rattle.code.specs.declared.types.Certificate.{Certificate as CodeCertificate}
 use Rattle.code.specs.declared.types.Checked.{Checked}
 use Rattle.code.specs.declared.types.Checked.the-variants.{Distance, Refused}
-use Rattle.code.specs.Answer.{Answer, returned, refused, numberOf}
-use Rattle.code.specs.Sheet.{Certificate, codeLength, representativeCount, representatives, certificateCount}
+use Rattle.code.specs.Answer.{Answer, returned, refused, numberOf, firstOf, settle}
+use Rattle.code.specs.Sheet.{Certificate, certificate, codeLength, representativeCount, representatives, certificateCount}
 use Rattle.code.specs.Coset.{inCoset, smallest, inSet}
-use Rattle.code.specs.Certificate.{rule4}
-use Rattle.code.specs.Judge.{wrongRepresentative}
+use Rattle.code.specs.Certificate.{rule4, distance}
+use Rattle.code.specs.Judge.{wrongRepresentative, certificateConditions}
 
 pub record Headed (sheet : List ℕ) : Type 0 where
   pub least : 3 ≤ codeLength sheet
@@ -87,3 +88,14 @@ pub record Walkable (n : ℕ) (c : CodeCertificate) (z : List ℕ) : Type 0 wher
 -- rule 4 over the set that z marks
 pub record Ruled (n : ℕ) (c : Certificate) (z : List ℕ) (wrong : Bool) : Type 0 where
   pub is : (reps : List ℕ) → Marks n reps z → wrong ≡ not (rule4 n reps c)
+
+-- what the check of certificate i of a sheet says, and needs
+unfoldable pub checkOf : List ℕ → ℕ → Answer
+checkOf sheet i = settle (firstOf (certificateConditions sheet i)) (distance (certificate sheet i) ∷ []) [] [] .0
+
+pub record Checkable (sheet : List ℕ) (n reps i : ℕ) (z : List ℕ) : Type 0 where
+  pub head : Headed sheet
+  pub n-is : n ≡ codeLength sheet
+  pub reps-is : reps ≡ representativeCount sheet
+  pub below : i < certificateCount sheet
+  pub marks : Marks n (representatives sheet) z

@@ -1,16 +1,19 @@
 // A certificate against rules 1 to 4: refusals 7 to 10, and its distance.
 ghost use mathlib.Core.Path.{_≡_};
 ghost use mathlib.Core.Bool.{true, not};
-ghost use Prim.Native.Nat.{_+_, _*_, _/_, _%_, _<_, _≤_};
+ghost use Prim.Native.Nat.{_+_, _-_, _*_, _/_, _%_, _<_, _≤_};
 ghost use lib.ListN.{length};
 ghost use Rattle.code.specs.Sheet.{representativeCount, certificateCount, «certificate» as certificateOf};
 ghost use Rattle.code.specs.Certificate.{steps, ratio, extent, rule1};
-ghost use Rattle.code.specs.Stage.{Headed, Fits, Walkable, Ruled, certificateAs};
+ghost use Rattle.code.specs.Stage.{Headed, Fits, Walkable, Ruled, Checkable, certificateAs, checkedAs, checkOf};
+ghost use Rattle.poly.specs.Factor.{coprime, period, Modulus};
 ghost use Rattle.field.specs.Mask.{_⊕_};
 
 use crate::sheet::byte;
 use crate::sheet::number;
 use crate::types::Certificate;
+use crate::types::Checked;
+use crate::types::Refusal;
 
 // Certificate c of a sheet with `reps` representatives.
 pub fn read(sheet: &[u8], reps: usize, c: usize) -> Certificate
@@ -138,4 +141,52 @@ pub fn wrong_terms(n: usize, c: Certificate, zeros: &[u8]) -> bool
         j = j + 1;
     }
     false
+}
+
+// Refusal 9.
+fn wrong_period(n: usize, f: usize, u: usize) -> bool
+    requires { ⌜ Modulus f u ⌝ }
+    ensures { λ r. ⌜ r ≡ not (coprime (period f) n) ⌝ }
+{
+    if poly::factor::coprime(poly::factor::period(f, u), n) {
+        return false;
+    }
+    true
+}
+
+// a less b, or 0 where b is larger.
+fn less(a: usize, b: usize) -> usize
+    ensures { λ r. ⌜ r ≡ a - b ⌝ }
+{
+    if a < b { 0 } else { a - b }
+}
+
+// (L - v)/u + 1, rounded up.
+fn distance(terms: usize, u: usize, v: usize) -> usize
+    requires { ⌜ (1 ≤ u) × (u ≤ 8) × (terms ≤ 1023) ⌝ }
+    ensures { λ r. ⌜ (r ≡ (terms - v + (u - 1)) / u + 1) × (r ≤ 1031) ⌝ }
+{
+    (less(terms, v) + (u - 1)) / u + 1
+}
+
+// Certificate i against rules 1 to 4 in turn.
+pub fn check(sheet: &[u8], n: usize, reps: usize, i: usize, zeros: &[u8]) -> Checked
+    requires { ⌜ Checkable (now sheet) n reps i (now zeros) ⌝ }
+    ensures { λ r. ⌜ checkedAs r ≡ checkOf (now (sheet .entry)) i ⌝ }
+{
+    let c = read(sheet, reps, i);
+    if wrong_range(n, c) {
+        return Checked::Refused(Refusal::Range);
+    }
+    if poly::factor::common(c.f, c.h) {
+        return Checked::Refused(Refusal::CommonFactor);
+    }
+    let u = poly::factor::degree(c.f);
+    if wrong_period(n, c.f, u) {
+        return Checked::Refused(Refusal::Period);
+    }
+    if wrong_terms(n, c, zeros) {
+        return Checked::Refused(Refusal::Term);
+    }
+    Checked::Distance(distance(c.terms, u, poly::factor::degree(c.h)))
 }

@@ -6,4 +6,13 @@ pub mod Ranges
 pub mod Terms
 pub mod Checks
 pub mod Sane
+pub mod Chain
+pub mod Weighing
+pub mod Judging
 pub mod Header
+pub mod Digits
+pub mod Places
+pub mod PlaceLoops
+pub mod Theory
+pub mod GeneratorIs
+pub mod Demand2

@@ -54,28 +54,49 @@ module _ (c : Certificate) where
   pub ratio-f-odd : 1 ≤ degree (c .f) → degree (c .f) ≤ 8 → c .f % 2 ≢ 1 → true ≡ not (ratio c)
   unfolding ratio
   ratio-f-odd p0 p1 q =
-      simp (le-leb 1 (degree (c .f)) p0, le-leb (degree (c .f)) 8 p1, ne-eqb (coefficient 0 (c .f)) 1
-      (λ e. q (sym (lowest (c .f)) ∙ e)))
+      simp (
+        le-leb 1 (degree (c .f)) p0,
+        le-leb (degree (c .f)) 8 p1,
+        ne-eqb (coefficient 0 (c .f)) 1
+            (λ e. q (sym (lowest (c .f)) ∙ e)),
+      )
 
   pub ratio-h : 1 ≤ degree (c .f) → degree (c .f) ≤ 8 → c .f % 2 ≡ 1 → c .h ≡ 0 → true ≡ not (ratio c)
   unfolding ratio
   ratio-h p0 p1 p2 q =
-      simp (le-leb 1 (degree (c .f)) p0, le-leb (degree (c .f)) 8 p1, eq-eqb (coefficient 0 (c .f)) 1 (lowest (c .f) ∙ p2), eq-eqb
-      (c .h) 0 q)
+      simp (
+        le-leb 1 (degree (c .f)) p0,
+        le-leb (degree (c .f)) 8 p1,
+        eq-eqb (coefficient 0 (c .f)) 1 (lowest (c .f) ∙ p2),
+        eq-eqb
+            (c .h) 0 q,
+      )
 
   pub ratio-v : 1 ≤ degree (c .f) → degree (c .f) ≤ 8 → c .f % 2 ≡ 1 → c .h ≢ 0 → degree (c .f) ≤ degree (c .h)
       → true ≡ not (ratio c)
   unfolding ratio
   ratio-v p0 p1 p2 p3 q =
-      simp (le-leb 1 (degree (c .f)) p0, le-leb (degree (c .f)) 8 p1, eq-eqb (coefficient 0 (c .f)) 1 (lowest (c .f) ∙ p2), ne-eqb
-      (c .h) 0 p3, le-ltb (degree (c .h)) (degree (c .f)) q)
+      simp (
+        le-leb 1 (degree (c .f)) p0,
+        le-leb (degree (c .f)) 8 p1,
+        eq-eqb (coefficient 0 (c .f)) 1 (lowest (c .f) ∙ p2),
+        ne-eqb
+            (c .h) 0 p3,
+        le-ltb (degree (c .h)) (degree (c .f)) q,
+      )
 
   pub ratio-pass : 1 ≤ degree (c .f) → degree (c .f) ≤ 8 → c .f % 2 ≡ 1 → c .h ≢ 0 → degree (c .h) < degree (c .f)
       → false ≡ not (ratio c)
   unfolding ratio
   ratio-pass p0 p1 p2 p3 p4 =
-      simp (le-leb 1 (degree (c .f)) p0, le-leb (degree (c .f)) 8 p1, eq-eqb (coefficient 0 (c .f)) 1 (lowest (c .f) ∙ p2), ne-eqb
-      (c .h) 0 p3, lt-ltb (degree (c .h)) (degree (c .f)) p4)
+      simp (
+        le-leb 1 (degree (c .f)) p0,
+        le-leb (degree (c .f)) 8 p1,
+        eq-eqb (coefficient 0 (c .f)) 1 (lowest (c .f) ∙ p2),
+        ne-eqb
+            (c .h) 0 p3,
+        lt-ltb (degree (c .h)) (degree (c .f)) p4,
+      )
 
 module _ (c : Certificate) where
   pub extent-L-low : c .L < 1 → true ≡ not (extent c)

@@ -3,6 +3,7 @@
 --   distance-pos        a distance is at least 1
 --   radius-most         the t of every certificate on the sheet is at most the sheet's t
 --   (that D is closed under doubling is set-doubles of DefiningSet.antt)
+--   set-size            D has n - k members
 --   poly-length, poly-top      the generator has degree n - k: n - k + 1 coefficients, the highest of them 1
 --   empty-dimension, empty-generator      a sheet with R = 0 has k = n and generator 1
 --   accepted-dimension  an accepted sheet has 1 ≤ k
@@ -107,7 +108,7 @@ product-top s a (i ∷ l) =
     (List·getD-eq-default q 0 (omega (arith, length-map p (fieldMultiply s (fieldPower s a i)), product-length s a l)))
     ∙ ⊕-zero-r 1
 
-set-size : (n : ℕ) (reps : List ℕ) → n - dimension n reps ≡ length (definingSet n reps)
+pub set-size : (n : ℕ) (reps : List ℕ) → n - dimension n reps ≡ length (definingSet n reps)
 unfolding dimension definingSet
 set-size n reps = omega (arith, length-keep (inSet n reps) (upTo n), length-upTo n)
 

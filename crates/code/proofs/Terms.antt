@@ -75,15 +75,16 @@ module _ {n : ℕ} {c : CodeCertificate} {z : List ℕ} (w : Walkable n c z) whe
     pub going-more : {num′ at′ : ℕ} → num % 2 ≤ getD z at 0 → num′ ≡ (num ⊕ (num % 2) * c .f) / 2 → at′ ≡ (at + c .z) % n
         → Going n c z (j + 1) num′ at′
     going-more {num′} {at′} t p q = record {
-        num-is = p ∙ ap (λ (x : ℕ). (x ⊕ (x % 2) * c .f) / 2) (g .num-is) ∙ sym (register-s (c .f) (c .h) j)
-            ∙ ap (register (c .f) (c .h)) (sym (add-one j));
-        at-is = q ∙ ap (λ (x : ℕ). (x + c .z) % n) (g .at-is) ∙ mod-add-mod (c .b + j * c .z) n (c .z)
-            ∙ ap (λ (x : ℕ). x % n) (add-assoc (c .b) (j * c .z) (c .z) ∙ ap (λ (x : ℕ). c .b + x) (sym (suc-mul j (c .z))) ∙ ap (λ (k : ℕ). c .b + k * c .z) (sym (add-one j)));
-        kept = λ k h. elim (ℕ-discrete k j) [
-          yes e ↦ subst (λ (i : ℕ). register (c .f) (c .h) i % 2 ≤ getD z ((c .b + i * c .z) % n) 0) (sym e)
-            (subst₂′ (g .num-is) (g .at-is) t) |
-          no e ↦ g .kept k (omega arith) ];
-      }
+      num-is = p ∙ ap (λ (x : ℕ). (x ⊕ (x % 2) * c .f) / 2) (g .num-is) ∙ sym (register-s (c .f) (c .h) j)
+          ∙ ap (register (c .f) (c .h)) (sym (add-one j));
+      at-is = q ∙ ap (λ (x : ℕ). (x + c .z) % n) (g .at-is) ∙ mod-add-mod (c .b + j * c .z) n (c .z)
+          ∙ ap (λ (x : ℕ). x % n) (add-assoc (c .b) (j * c .z) (c .z) ∙ ap (λ (x : ℕ). c .b + x) (sym (suc-mul j (c .z))) ∙ ap (λ (k : ℕ). c .b + k * c .z) (sym (add-one j)));
+      kept = λ k h. elim (ℕ-discrete k j) [
+        | yes e ↦ subst (λ (i : ℕ). register (c .f) (c .h) i % 2 ≤ getD z ((c .b + i * c .z) % n) 0) (sym e)
+            (subst₂′ (g .num-is) (g .at-is) t)
+        | no e ↦ g .kept k (omega arith)
+      ];
+    }
       where
         subst₂′ : num ≡ register (c .f) (c .h) j → at ≡ (c .b + j * c .z) % n → num % 2 ≤ getD z at 0
             → register (c .f) (c .h) j % 2 ≤ getD z ((c .b + j * c .z) % n) 0

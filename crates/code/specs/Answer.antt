@@ -4,7 +4,7 @@
 --   firstOf conditions     the number of the first condition that holds; 0 if none does
 --   settle                 what an entry answers, and what it leaves in the lent buffer
 --   numberOf               a refusal's number
---   judgedAs, repliedAs    what the answers of the entries mean
+--   recordAs, judgedAs, repliedAs      what the answers of the entries mean
 use mathlib.Core.Bool.{Bool, true, false}
 use mathlib.Core.List.{List, [], _∷_}
 use Prim.Native.Nat.{ℕ, zero, suc}
@@ -60,8 +60,11 @@ numberOf SpareBit = 12
 numberOf NoneNear = 13
 numberOf NoCodeword = 14
 
+abbrev pub recordAs : Record → List ℕ
+recordAs r = r .n ∷ r .k ∷ r .s ∷ r .working ∷ r .d ∷ r .t ∷ r .terms ∷ []
+
 abbrev pub judgedAs : Judged → Answer
-judgedAs (Accepted r) = returned (r .n ∷ r .k ∷ r .s ∷ r .working ∷ r .d ∷ r .t ∷ r .terms ∷ [])
+judgedAs (Accepted r) = returned (recordAs r)
 judgedAs (NotAccepted r) = refused (numberOf r)
 
 abbrev pub repliedAs : Reply → Answer

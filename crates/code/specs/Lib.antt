@@ -8,3 +8,4 @@ pub mod Judge
 pub mod Entry
 pub mod Card
 pub mod Stage
+pub mod Place

@@ -4,26 +4,33 @@
 --   certificateAs, Fits      a certificate of the code as one of the definitions, and its bounds
 --   Walkable, Ruled    what the walk over the terms needs, and says
 --   checkOf, Checkable      what the check of one certificate says, and needs
+--   bestOf, weighedAs, weighOf, Weighable      the same for all certificates
+--   Recordable, Judgeable      what the record needs, and what refusals 5 to 10 need
 --   checkedAs          what a certificate's check means in the paper's numbers
 --   Marks n reps z     z holds 1 at each member of D, else 0
 --   Marked n r z z′ low      z′ is z with the coset of r marked; low is 0 exactly where r is its smallest
 --   Found sheet z r    r says whether refusal 5 is drawn; where it is not, z marks D
 use mathlib.Core.Path.{_≡_}
 use mathlib.Core.Bool.{Bool, true, false, not}
-use mathlib.Core.List.{List, [], _∷_}
-use Prim.Native.Nat.{ℕ, suc, _+_, _*_, _%_, _^_, _≤_, _<_}
+use mathlib.Core.List.{List, [], _∷_, flatMap}
+use Prim.Native.Nat.{ℕ, suc, _+_, _*_, _/_, _%_, _^_, _≤_, _<_}
 use lib.Dec.{ltb}
 use lib.ListN.{length, getD}
+use Rattle.field.specs.Search.{upTo}
 use Rattle.field.specs.Field.{orderOfTwo}
 use Rattle.poly.specs.Factor.{degree}
 use Rattle.code.specs.declared.types.Certificate.{Certificate as CodeCertificate}
+use Rattle.code.specs.declared.types.Best.{Best}
+use Rattle.code.specs.declared.types.Weighed.{Weighed}
+use Rattle.code.specs.declared.types.Weighed.the-variants.{Working, Refused as NotWeighed}
 use Rattle.code.specs.declared.types.Checked.{Checked}
 use Rattle.code.specs.declared.types.Checked.the-variants.{Distance, Refused}
 use Rattle.code.specs.Answer.{Answer, returned, refused, numberOf, firstOf, settle}
 use Rattle.code.specs.Sheet.{Certificate, certificate, codeLength, representativeCount, representatives, certificateCount}
-use Rattle.code.specs.Coset.{inCoset, smallest, inSet}
+use Rattle.code.specs.Coset.{inCoset, smallest, inSet, definingSet}
 use Rattle.code.specs.Certificate.{rule4, distance}
-use Rattle.code.specs.Judge.{wrongRepresentative, certificateConditions}
+use Rattle.code.specs.Judge.{wrongLength, wrongCodeLength, wrongDegree, wrongHeader, wrongRepresentative}
+use Rattle.code.specs.Judge.{certificateConditions, workingOf, workingCertificate}
 
 pub record Headed (sheet : List ℕ) : Type 0 where
   pub least : 3 ≤ codeLength sheet
@@ -89,6 +96,10 @@ pub record Walkable (n : ℕ) (c : CodeCertificate) (z : List ℕ) : Type 0 wher
 pub record Ruled (n : ℕ) (c : Certificate) (z : List ℕ) (wrong : Bool) : Type 0 where
   pub is : (reps : List ℕ) → Marks n reps z → wrong ≡ not (rule4 n reps c)
 
+abbrev pub distanceIn : Checked → ℕ
+distanceIn (Distance d) = d
+distanceIn (Refused r) = 0
+
 -- what the check of certificate i of a sheet says, and needs
 unfoldable pub checkOf : List ℕ → ℕ → Answer
 checkOf sheet i = settle (firstOf (certificateConditions sheet i)) (distance (certificate sheet i) ∷ []) [] [] .0
@@ -99,3 +110,47 @@ pub record Checkable (sheet : List ℕ) (n reps i : ℕ) (z : List ℕ) : Type 0
   pub reps-is : reps ≡ representativeCount sheet
   pub below : i < certificateCount sheet
   pub marks : Marks n (representatives sheet) z
+
+-- ---- all certificates
+abbrev pub chosen : Bool → Best → Best → Best
+chosen true a b = a
+chosen false a b = b
+
+abbrev pub bestOf : Best → ℕ → ℕ → Best
+bestOf best i e = chosen (ltb ((best .d + 1) / 2) ((e + 1) / 2)) (record { index = i; d = e }) best
+
+abbrev pub weighedAs : Weighed → Answer
+weighedAs (Working b) = returned (b .index ∷ b .d ∷ [])
+weighedAs (NotWeighed r) = refused (numberOf r)
+
+unfoldable pub weighOf : List ℕ → Answer
+weighOf sheet =
+    settle (firstOf (flatMap (certificateConditions sheet) (upTo (certificateCount sheet))))
+    (workingOf sheet ∷ distance (workingCertificate sheet) ∷ []) [] [] .0
+
+pub record Weighable (sheet : List ℕ) (n reps count : ℕ) (z : List ℕ) : Type 0 where
+  pub head : Headed sheet
+  pub n-is : n ≡ codeLength sheet
+  pub reps-is : reps ≡ representativeCount sheet
+  pub count-is : count ≡ certificateCount sheet
+  pub marks : Marks n (representatives sheet) z
+
+-- ---- the whole
+pub record Recordable (sheet : List ℕ) (n s reps size : ℕ) (best : Best) : Type 0 where
+  pub head : Headed sheet
+  pub n-is : n ≡ codeLength sheet
+  pub s-is : s ≡ orderOfTwo n
+  pub reps-is : reps ≡ representativeCount sheet
+  pub size-is : size ≡ length (definingSet n (representatives sheet))
+  pub size-le : size ≤ n
+  pub index-is : best .index ≡ workingOf sheet
+  pub index-lt : best .index < certificateCount sheet
+  pub d-is : best .d ≡ distance (workingCertificate sheet)
+  pub d-pos : 1 ≤ best .d
+
+pub record Judgeable (sheet : List ℕ) : Type 0 where
+  pub head : Headed sheet
+  pub not-1 : wrongLength sheet ≡ false
+  pub not-2 : wrongCodeLength sheet ≡ false
+  pub not-3 : wrongDegree sheet ≡ false
+  pub not-4 : wrongHeader sheet ≡ false

@@ -5,10 +5,9 @@ ghost use Prim.Native.Nat.{_+_, _-_, _*_, _/_, _%_, _<_, _≤_};
 ghost use lib.ListN.{length};
 ghost use Rattle.code.specs.Sheet.{representativeCount, certificateCount, «certificate» as certificateOf};
 ghost use Rattle.code.specs.Certificate.{steps, ratio, extent, rule1};
-ghost use Rattle.code.specs.Stage.{Headed, Fits, Walkable, Ruled, Checkable, certificateAs, checkedAs, checkOf};
+ghost use Rattle.code.specs.Stage.{Headed, Fits, Walkable, Ruled, Checkable, certificateAs, checkedAs, checkOf, distanceIn};
 ghost use Rattle.poly.specs.Factor.{coprime, period, Modulus};
 ghost use Rattle.field.specs.Mask.{_⊕_};
-
 use crate::sheet::byte;
 use crate::sheet::number;
 use crate::types::Certificate;
@@ -16,7 +15,7 @@ use crate::types::Checked;
 use crate::types::Refusal;
 
 // Certificate c of a sheet with `reps` representatives.
-pub fn read(sheet: &[u8], reps: usize, c: usize) -> Certificate
+pub(crate) fn read(sheet: &[u8], reps: usize, c: usize) -> Certificate
     requires { ⌜ Headed (now sheet) × (reps ≡ representativeCount (now sheet)) × (c < certificateCount (now sheet)) ⌝ }
     ensures { λ r. ⌜ (certificateAs r ≡ certificateOf (now (sheet .entry)) c) × Fits r ⌝ }
 {
@@ -27,7 +26,14 @@ pub fn read(sheet: &[u8], reps: usize, c: usize) -> Certificate
     let h = byte(sheet, at + 4);
     let zero = byte(sheet, at + 5);
     let terms = number(sheet, at + 6);
-    Certificate { b, z, f, h, zero, terms }
+    Certificate {
+        b,
+        z,
+        f,
+        h,
+        zero,
+        terms,
+    }
 }
 
 // Start and step of rule 1.
@@ -91,7 +97,7 @@ fn wrong_extent(c: Certificate) -> bool
 }
 
 // Refusal 7.
-pub fn wrong_range(n: usize, c: Certificate) -> bool
+pub(crate) fn wrong_range(n: usize, c: Certificate) -> bool
     requires { ⌜ Fits c × (3 ≤ n) × (n ≤ 127) ⌝ }
     ensures { λ r. ⌜ r ≡ not (rule1 n (certificateAs c)) ⌝ }
 {
@@ -125,7 +131,7 @@ fn step(n: usize, at: usize, z: usize) -> usize
 }
 
 // Refusal 10: a term that is 1 at a place that is not in D.
-pub fn wrong_terms(n: usize, c: Certificate, zeros: &[u8]) -> bool
+pub(crate) fn wrong_terms(n: usize, c: Certificate, zeros: &[u8]) -> bool
     requires { ⌜ Walkable n c (now zeros) ⌝ }
     ensures { λ r. ⌜ Ruled n (certificateAs c) (now (zeros .entry)) r ⌝ }
 {
@@ -170,9 +176,9 @@ fn distance(terms: usize, u: usize, v: usize) -> usize
 }
 
 // Certificate i against rules 1 to 4 in turn.
-pub fn check(sheet: &[u8], n: usize, reps: usize, i: usize, zeros: &[u8]) -> Checked
+pub(crate) fn check(sheet: &[u8], n: usize, reps: usize, i: usize, zeros: &[u8]) -> Checked
     requires { ⌜ Checkable (now sheet) n reps i (now zeros) ⌝ }
-    ensures { λ r. ⌜ checkedAs r ≡ checkOf (now (sheet .entry)) i ⌝ }
+    ensures { λ r. ⌜ (checkedAs r ≡ checkOf (now (sheet .entry)) i) × (distanceIn r ≤ 1031) ⌝ }
 {
     let c = read(sheet, reps, i);
     if wrong_range(n, c) {

@@ -36,7 +36,13 @@ fn mark(n: usize, s: usize, r: usize, z: &mut [u8]) -> usize
 }
 
 // Refusal 5, with D marked where it is not drawn.
-pub fn wrong_representative(sheet: &[u8], n: usize, s: usize, count: usize, z: &mut [u8]) -> bool
+pub(crate) fn wrong_representative(
+    sheet: &[u8],
+    n: usize,
+    s: usize,
+    count: usize,
+    z: &mut [u8],
+) -> bool
     requires { ⌜ Headed (now sheet) × (n ≡ codeLength (now sheet)) × (s ≡ orderOfTwo n) × (count ≡ representativeCount (now sheet)) × Marks n [] (now z) ⌝ }
     ensures { λ r. ⌜ Found (now (sheet .entry)) (now (z .exit)) r ⌝ }
 {
@@ -60,7 +66,7 @@ pub fn wrong_representative(sheet: &[u8], n: usize, s: usize, count: usize, z: &
 }
 
 // How many of the first n are marked.
-pub fn marks(n: usize, z: &[u8]) -> usize
+pub(crate) fn marks(n: usize, z: &[u8]) -> usize
     requires { ⌜ (n ≤ length (now z)) × (n ≤ 65535) ⌝ }
     ensures { λ r. ⌜ r ≡ total n (λ i. getD (now (z .entry)) i 0) ⌝ }
 {

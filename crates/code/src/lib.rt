@@ -1,5 +1,7 @@
 // Everything document 01 says of sheets, certificates, words and messages.
-pub mod cosets;
-pub mod certificate;
-pub mod sheet;
+mod certificate;
+mod cosets;
+pub mod judge;
+mod layout;
+mod sheet;
 pub mod types;

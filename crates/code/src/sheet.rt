@@ -6,7 +6,7 @@ ghost use lib.ListN.{length};
 ghost use Rattle.code.specs.Sheet.{byteAt, numberAt};
 ghost use Rattle.code.specs.Judge.{wrongLength, wrongCodeLength, wrongDegree, wrongHeader};
 
-pub fn byte(sheet: &[u8], i: usize) -> usize
+pub(crate) fn byte(sheet: &[u8], i: usize) -> usize
     requires { ⌜ i < length (now sheet) ⌝ }
     ensures { λ r. ⌜ (r ≡ byteAt (now (sheet .entry)) i) × (r < 256) ⌝ }
 {
@@ -14,7 +14,7 @@ pub fn byte(sheet: &[u8], i: usize) -> usize
 }
 
 // A 16-bit number, low byte first.
-pub fn number(sheet: &[u8], i: usize) -> usize
+pub(crate) fn number(sheet: &[u8], i: usize) -> usize
     requires { ⌜ i + 1 < length (now sheet) ⌝ }
     ensures { λ r. ⌜ (r ≡ numberAt (now (sheet .entry)) i) × (r < 65536) ⌝ }
 {
@@ -22,7 +22,7 @@ pub fn number(sheet: &[u8], i: usize) -> usize
 }
 
 // Refusal 1.
-pub fn wrong_length(sheet: &[u8]) -> bool
+pub(crate) fn wrong_length(sheet: &[u8]) -> bool
     ensures { λ r. ⌜ r ≡ wrongLength (now (sheet .entry)) ⌝ }
 {
     let len = sheet.len();
@@ -39,7 +39,7 @@ pub fn wrong_length(sheet: &[u8]) -> bool
 }
 
 // Refusal 2.
-pub fn wrong_code_length(sheet: &[u8]) -> bool
+pub(crate) fn wrong_code_length(sheet: &[u8]) -> bool
     requires { ⌜ 10 ≤ length (now sheet) ⌝ }
     ensures { λ r. ⌜ r ≡ wrongCodeLength (now (sheet .entry)) ⌝ }
 {
@@ -57,7 +57,7 @@ pub fn wrong_code_length(sheet: &[u8]) -> bool
 }
 
 // Refusal 3.
-pub fn wrong_degree(sheet: &[u8]) -> bool
+pub(crate) fn wrong_degree(sheet: &[u8]) -> bool
     requires { ⌜ (10 ≤ length (now sheet)) × (wrongCodeLength (now sheet) ≡ false) ⌝ }
     ensures { λ r. ⌜ r ≡ wrongDegree (now (sheet .entry)) ⌝ }
 {
@@ -69,7 +69,7 @@ pub fn wrong_degree(sheet: &[u8]) -> bool
 }
 
 // Refusal 4.
-pub fn wrong_header(sheet: &[u8]) -> bool
+pub(crate) fn wrong_header(sheet: &[u8]) -> bool
     requires { ⌜ 10 ≤ length (now sheet) ⌝ }
     ensures { λ r. ⌜ r ≡ wrongHeader (now (sheet .entry)) ⌝ }
 {

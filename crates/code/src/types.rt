@@ -55,3 +55,15 @@ pub enum Checked {
     Distance(usize),
     Refused(Refusal),
 }
+
+// The best certificate so far: its index, and its distance.
+pub struct Best {
+    pub index: usize,
+    pub d: usize,
+}
+
+// All certificates checked: the working one, or the first refusal.
+pub enum Weighed {
+    Working(Best),
+    Refused(Refusal),
+}

@@ -242,7 +242,7 @@ module _ {s : ℕ} (d : Degree s) where
   isField = record { inv = λ a. pow GF a (2 ^ s - 2); mul-inv = mul-inverse; one-ne = one-ne; discrete = Fin-discrete (2 ^ s) }
 
   -- ---- α
-  pub root : ℕ → F s
+  unfoldable pub root : ℕ → F s
   root n = pow GF gen ((2 ^ s - 1) / n)
 
   pub root-order : (n : ℕ) → n ∣ 2 ^ s - 1 → Order GF (root n) n

@@ -2,7 +2,7 @@
 --
 --   multiply-lt, product-lt, power-lt      results are elements
 --   multiply-comm, multiply-assoc, multiply-zero, zero-multiply, multiply-one      of products
---   el-power                      a power is the power of the element
+--   el-power, el-root             a power is the power of the element, and α is the theory's root
 --   power-z, power-s, power-add   of exponents
 --   power-order, power-round      ω^(2^s - 1) = 1, and so round and round
 --   power-inj, power-onto, power-ne      the powers of ω below that are different, and are all elements but 0
@@ -11,7 +11,7 @@
 use mathlib.Core.Path.{_≡_, refl, sym, ap, ap₂, _∙_, subst}
 use mathlib.Core.Logic.{_≢_}
 use mathlib.Core.List.{List, [], _∷_}
-use Prim.Native.Nat.{ℕ, zero, suc, _+_, _-_, _*_, _^_, _≤_, _<_}
+use Prim.Native.Nat.{ℕ, zero, suc, _+_, _-_, _*_, _/_, _^_, _≤_, _<_}
 use native.Mathlib.Omega.{arith}
 use lib.Dec.{eqb}
 use lib.Pow.{pow-mono}
@@ -20,12 +20,12 @@ use Rattle.algebra.proofs.Ring.{Ring, mul-one, mul-comm, mul-assoc, mul-zero, z
 use Rattle.algebra.proofs.Power.{pow, pow-z, pow-s, pow-add, Order, pow-inj}
 use Rattle.algebra.proofs.Field.{pow-ne}
 use Rattle.field.specs.Mask.{clmul, remainder}
-use Rattle.field.specs.Field.{mask, Degree, ω, fieldMultiply, fieldPower, logarithm, inverses}
+use Rattle.field.specs.Field.{mask, Degree, ω, fieldMultiply, fieldPower, α, logarithm, inverses}
 use Rattle.field.proofs.Search.{Least, least-is, least-unique, keep-one, keep-none}
 use Rattle.field.proofs.Remainder.{remainder-lt}
 use Rattle.field.proofs.Primitive.{primitive, Degree-bounds}
 use Rattle.field.proofs.Elements.{F, F-eq, GF, GF-zero, GF-one, el, el-value, el-of, el-inj, el-zero, el-one, el-mul, gen}
-use Rattle.field.proofs.Elements.{gen-order, log, mul-inverse, isField}
+use Rattle.field.proofs.Elements.{gen-order, log, mul-inverse, isField, root}
 
 pub power-z : (s a : ℕ) → fieldPower s a 0 ≡ 1
 unfolding fieldPower
@@ -93,6 +93,10 @@ module _ {s : ℕ} (d : Degree s) where
   gen-is : (k : ℕ) → el d (fieldPower s ω k) ≡ pow (GF d) (gen d) k
   unfolding gen
   gen-is k = el-power ω k
+
+  pub el-root : (n : ℕ) → el d (α s n) ≡ root d n
+  unfolding root α
+  el-root n = gen-is ((2 ^ s - 1) / n)
 
   pub power-order : fieldPower s ω (2 ^ s - 1) ≡ 1
   power-order = by-el (power-lt ω (2 ^ s - 1)) one-lt (gen-is (2 ^ s - 1) ∙ gen-order d .one ∙ sym (el-one d))

@@ -101,7 +101,7 @@ keep-append test (x ∷ l) m = go (test x) (keep-append test l m)
     go true h = ap (λ l. x ∷ l) h
     go false h = h
 
-upTo-suc : (n : ℕ) → upTo (suc n) ≡ upTo n ++ (n ∷ [])
+pub upTo-suc : (n : ℕ) → upTo (suc n) ≡ upTo n ++ (n ∷ [])
 unfolding upTo
 upTo-suc n = refl
 

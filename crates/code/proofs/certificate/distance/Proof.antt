@@ -6,9 +6,6 @@ use Rattle.code.proofs.Checks.{quotient-le}
 use borrow.Author.Needs.{needs}
 use Rattle.code.proofs.certificate.distance.Statement.{statement}
 use Rattle.code.proofs.certificate.distance.Tie as tie
-use Rattle.code.proofs.certificate.distance.Reads as reads
-use Rattle.code.proofs.certificate.distance.Lts as lts
-use Rattle.code.proofs.certificate.less.Reads as less-reads
 
 less-requires : tie.Need-less-requires
 less-requires c κs = search needs
@@ -26,7 +23,11 @@ add-result-2 : tie.Need-add-result-2
 add-result-2 c = let q = quotient-le (c .less .result + (c .before .args .u - 1)) (c .before .args .u) (omega arith) in omega arith
 
 returns : tie.Need-returns
-returns c = (ap (λ (x : ℕ). (x + (c .before .args .u - 1)) / c .before .args .u + 1) (c .less .ensures), quotient-le (c .less .result + (c .before .args .u - 1)) (c .before .args .u) (omega arith))
+returns c = (
+  ap (λ (x : ℕ). (x + (c .before .args .u - 1)) / c .before .args .u + 1) (c .less .ensures),
+  quotient-le
+      (c .less .result + (c .before .args .u - 1)) (c .before .args .u) (omega arith),
+)
 
 pub distance-spec : {M : Type 1} → statement M
 distance-spec =

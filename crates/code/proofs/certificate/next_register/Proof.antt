@@ -4,8 +4,6 @@ use native.Mathlib.Omega.{arith}
 use Rattle.code.proofs.Terms.{register-set, register-clear}
 use Rattle.code.proofs.certificate.next_register.Statement.{statement}
 use Rattle.code.proofs.certificate.next_register.Tie as tie
-use Rattle.code.proofs.certificate.next_register.Reads as reads
-use Rattle.code.proofs.certificate.next_register.Lts as lts
 
 returns : tie.Need-returns
 returns c = register-set _ _ (omega arith)

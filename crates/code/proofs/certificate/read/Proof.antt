@@ -4,10 +4,6 @@ use Rattle.code.proofs.Ranges.{certificate-is}
 use borrow.Author.Needs.{needs}
 use Rattle.code.proofs.certificate.read.Statement.{statement}
 use Rattle.code.proofs.certificate.read.Tie as tie
-use Rattle.code.proofs.certificate.read.Reads as reads
-use Rattle.code.proofs.certificate.read.Lts as lts
-use Rattle.code.proofs.sheet.byte.Reads as byte-reads
-use Rattle.code.proofs.sheet.number.Reads as number-reads
 
 add-at : tie.Need-add-at
 add-at c = search needs
@@ -52,9 +48,14 @@ number-requires-2 : tie.Need-number-requires-2
 number-requires-2 c κs = let p = c .before .before .before .before .before .before .pre in omega (arith, p .0 .long)
 
 returns : tie.Need-returns
-returns c = let p = c .before .before .before .before .before .before .before .pre in let e₁ = c .before .before .before .before .before .byte .ensures in let e₂ = c .before .before .before .before .byte2 .ensures in let e₃ = c .before .before .before .number .ensures in
-    let e₄ = c .before .before .byte3 .ensures in let e₅ = c .before .byte4 .ensures in let e₆ = c .number2 .ensures in
-    (certificate-is _ _ _ (p .1) (e₁ .0) (e₂ .0) (e₃ .0) (e₄ .0) (e₅ .0) (e₆ .0), record { b = e₁ .1; z = e₂ .1; f = e₃ .1; h = e₄ .1; terms = e₆ .1 })
+returns c =
+    let p = c .before .before .before .before .before .before .before .pre in
+    let e₁ = c .before .before .before .before .before .byte .ensures in
+    let e₂ = c .before .before .before .before .byte2 .ensures in let e₃ = c .before .before .before .number .ensures in
+    let e₄ = c .before .before .byte3 .ensures in let e₅ = c .before .byte4 .ensures in let e₆ = c .number2 .ensures in (
+      certificate-is _ _ _ (p .1) (e₁ .0) (e₂ .0) (e₃ .0) (e₄ .0) (e₅ .0) (e₆ .0),
+      record { b = e₁ .1; z = e₂ .1; f = e₃ .1; h = e₄ .1; terms = e₆ .1 },
+    )
 
 pub read-spec : {M : Type 1} → statement M
 read-spec =

@@ -3,8 +3,6 @@ use Rattle.code.proofs.Terms.{step-low, step-high}
 use borrow.Author.Needs.{needs}
 use Rattle.code.proofs.certificate.step.Statement.{statement}
 use Rattle.code.proofs.certificate.step.Tie as tie
-use Rattle.code.proofs.certificate.step.Reads as reads
-use Rattle.code.proofs.certificate.step.Lts as lts
 
 add-next : tie.Need-add-next
 add-next c = search needs

@@ -4,8 +4,6 @@ use native.Mathlib.Omega.{arith}
 use Rattle.code.proofs.Ranges.{extent-L-low, extent-L-high, extent-zero, extent-pass}
 use Rattle.code.proofs.certificate.wrong_extent.Statement.{statement}
 use Rattle.code.proofs.certificate.wrong_extent.Tie as tie
-use Rattle.code.proofs.certificate.wrong_extent.Reads as reads
-use Rattle.code.proofs.certificate.wrong_extent.Lts as lts
 
 returns : tie.Need-returns
 returns c = extent-L-low _ (omega arith)

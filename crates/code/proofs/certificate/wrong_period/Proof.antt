@@ -6,10 +6,6 @@ use Rattle.poly.specs.Factor.{coprime}
 use borrow.Author.Needs.{needs}
 use Rattle.code.proofs.certificate.wrong_period.Statement.{statement}
 use Rattle.code.proofs.certificate.wrong_period.Tie as tie
-use Rattle.code.proofs.certificate.wrong_period.Reads as reads
-use Rattle.code.proofs.certificate.wrong_period.Lts as lts
-use Rattle.poly.proofs.factor.coprime.Reads as coprime-reads
-use Rattle.poly.proofs.factor.period.Reads as period-reads
 
 period-requires : tie.Need-period-requires
 period-requires c κs = search needs
@@ -18,10 +14,14 @@ coprime-requires : tie.Need-coprime-requires
 coprime-requires c κs = search needs
 
 returns : tie.Need-returns
-returns c = sym (ap not (ap (λ (x : ℕ). coprime x (c .before .before .before .args .n)) (sym (c .before .before .period .ensures)) ∙ sym (c .before .coprime .ensures) ∙ c .if1 .taken))
+returns c =
+    sym (ap not (ap (λ (x : ℕ). coprime x (c .before .before .before .args .n)) (sym (c .before .before .period .ensures))
+    ∙ sym (c .before .coprime .ensures) ∙ c .if1 .taken))
 
 returns-2 : tie.Need-returns-2
-returns-2 c = sym (ap not (ap (λ (x : ℕ). coprime x (c .before .before .before .args .n)) (sym (c .before .before .period .ensures)) ∙ sym (c .before .coprime .ensures) ∙ c .if1 .left))
+returns-2 c =
+    sym (ap not (ap (λ (x : ℕ). coprime x (c .before .before .before .args .n)) (sym (c .before .before .period .ensures))
+    ∙ sym (c .before .coprime .ensures) ∙ c .if1 .left))
 
 pub wrong-period-spec : {M : Type 1} → statement M
 wrong-period-spec = tie.close (tie.spec period-requires coprime-requires returns returns-2)

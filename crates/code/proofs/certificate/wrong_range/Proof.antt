@@ -4,11 +4,6 @@ use Rattle.code.proofs.Ranges.{range-steps, range-ratio, range-extent, 
 use borrow.Author.Needs.{needs}
 use Rattle.code.proofs.certificate.wrong_range.Statement.{statement}
 use Rattle.code.proofs.certificate.wrong_range.Tie as tie
-use Rattle.code.proofs.certificate.wrong_range.Reads as reads
-use Rattle.code.proofs.certificate.wrong_range.Lts as lts
-use Rattle.code.proofs.certificate.wrong_extent.Reads as wrong-extent-reads
-use Rattle.code.proofs.certificate.wrong_ratio.Reads as wrong-ratio-reads
-use Rattle.code.proofs.certificate.wrong_steps.Reads as wrong-steps-reads
 
 wrong-steps-requires : tie.Need-wrong-steps-requires
 wrong-steps-requires c κs = (c .pre .1, c .pre .2)
@@ -29,7 +24,11 @@ returns-3 : tie.Need-returns-3
 returns-3 c = range-extent _ _ (sym (c .if3 .taken) ∙ c .before .wrong-extent .ensures)
 
 returns-4 : tie.Need-returns-4
-returns-4 c = range-pass _ _ (sym (c .before .before .before .before .if1 .left) ∙ c .before .before .before .before .before .wrong-steps .ensures) (sym (c .before .before .if2 .left) ∙ c .before .before .before .wrong-ratio .ensures) (sym (c .if3 .left) ∙ c .before .wrong-extent .ensures)
+returns-4 c =
+    range-pass _ _ (sym (c .before .before .before .before .if1 .left)
+    ∙ c .before .before .before .before .before .wrong-steps .ensures)
+    (sym (c .before .before .if2 .left) ∙ c .before .before .before .wrong-ratio .ensures)
+    (sym (c .if3 .left) ∙ c .before .wrong-extent .ensures)
 
 pub wrong-range-spec : {M : Type 1} → statement M
 wrong-range-spec =

@@ -4,9 +4,6 @@ use Rattle.code.proofs.Ranges.{ratio-u-low, ratio-u-high, ratio-f-odd, 
 use borrow.Author.Needs.{needs}
 use Rattle.code.proofs.certificate.wrong_ratio.Statement.{statement}
 use Rattle.code.proofs.certificate.wrong_ratio.Tie as tie
-use Rattle.code.proofs.certificate.wrong_ratio.Reads as reads
-use Rattle.code.proofs.certificate.wrong_ratio.Lts as lts
-use Rattle.poly.proofs.factor.degree.Reads as degree-reads
 
 degree-requires : tie.Need-degree-requires
 degree-requires c κs = c .pre .f

@@ -5,9 +5,6 @@ use Rattle.code.proofs.Ranges.{steps-b, steps-z-low, steps-z-high, step
 use borrow.Author.Needs.{needs}
 use Rattle.code.proofs.certificate.wrong_steps.Statement.{statement}
 use Rattle.code.proofs.certificate.wrong_steps.Tie as tie
-use Rattle.code.proofs.certificate.wrong_steps.Reads as reads
-use Rattle.code.proofs.certificate.wrong_steps.Lts as lts
-use Rattle.poly.proofs.factor.coprime.Reads as coprime-reads
 
 returns : tie.Need-returns
 returns c = steps-b _ _ (omega arith)

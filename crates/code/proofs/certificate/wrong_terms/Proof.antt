@@ -6,10 +6,6 @@ use Rattle.code.specs.Stage.{Walkable}
 use Rattle.code.proofs.Terms.{Going, going-start, going-more, going-wrong, going-end, num-lt, f-fits, at-lt}
 use Rattle.code.proofs.certificate.wrong_terms.Statement.{statement}
 use Rattle.code.proofs.certificate.wrong_terms.Tie as tie
-use Rattle.code.proofs.certificate.wrong_terms.Reads as reads
-use Rattle.code.proofs.certificate.wrong_terms.Lts as lts
-use Rattle.code.proofs.certificate.next_register.Reads as next-register-reads
-use Rattle.code.proofs.certificate.step.Reads as step-reads
 
 abbrev Inv-loop : tie.InvT-loop
 Inv-loop n c zeros num₀ at₀ j₀ num at j = Walkable n c zeros × Going n c zeros j num at × (j ≤ 1023)
@@ -21,7 +17,8 @@ loop-holds : tie.Need-loop-holds Inv-loop μ-loop
 loop-holds c = let p = c .before .pre in (p, going-start p, omega arith)
 
 shared-slice-read-if2 : tie.Need-shared-slice-read-if2 Inv-loop μ-loop
-shared-slice-read-if2 c = let v = c .before .before .before .loop .inv in let l = at-lt (v .0) (v .1) in omega (arith, l, v .0 .long)
+shared-slice-read-if2 c =
+    let v = c .before .before .before .loop .inv in let l = at-lt (v .0) (v .1) in omega (arith, l, v .0 .long)
 
 cast-if2 : tie.Need-cast-if2 Inv-loop μ-loop
 cast-if2 c = omega (arith, c .shared-slice-known2 .given (c .before .before .before .loop .at))
@@ -42,8 +39,12 @@ loop-less : tie.Need-loop-less Inv-loop μ-loop
 loop-less c = let v = c .before .before .before .before .before .before .loop .inv in omega (arith, v .0 .few)
 
 loop-again : tie.Need-loop-again Inv-loop μ-loop
-loop-again c = let v = c .before .before .before .before .before .before .loop .inv in
-    (v .0, going-more (v .0) (v .1) (c .before .before .if2 .left) (c .before .next-register .ensures) (c .step .ensures), omega (arith, v .0 .few))
+loop-again c = let v = c .before .before .before .before .before .before .loop .inv in (
+  v .0,
+  going-more (v .0) (v .1) (c .before .before .if2 .left) (c .before .next-register .ensures) (c .step .ensures),
+  omega
+      (arith, v .0 .few),
+)
 
 returns-2 : tie.Need-returns-2 Inv-loop μ-loop
 returns-2 c = let v = c .before .before .loop .inv in going-end (v .0) (v .1) (omega arith)

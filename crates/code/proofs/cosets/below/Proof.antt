@@ -6,8 +6,6 @@ use borrow.Author.Tests.{lt-ltb, le-ltb}
 use Rattle.code.specs.Stage.{bit}
 use Rattle.code.proofs.cosets.below.Statement.{statement}
 use Rattle.code.proofs.cosets.below.Tie as tie
-use Rattle.code.proofs.cosets.below.Reads as reads
-use Rattle.code.proofs.cosets.below.Lts as lts
 
 returns : tie.Need-returns
 returns c = (sym (ap bit (lt-ltb _ _ (c .if1 .taken))), omega arith)

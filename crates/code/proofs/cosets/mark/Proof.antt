@@ -9,13 +9,11 @@ use Rattle.field.proofs.OrderOfTwo.{order-lt, count-lt}
 use Rattle.code.proofs.DefiningSet.{Turned, turned-start, turned-more, turned-end, walk-start, walk-more}
 use Rattle.code.proofs.cosets.mark.Statement.{statement}
 use Rattle.code.proofs.cosets.mark.Tie as tie
-use Rattle.code.proofs.cosets.mark.Reads as reads
-use Rattle.code.proofs.cosets.mark.Lts as lts
-use Rattle.code.proofs.cosets.below.Reads as below-reads
-use Rattle.field.proofs.degree.twice.Reads as twice-reads
 
 abbrev Inv-loop : tie.InvT-loop
-Inv-loop n s r z₀ x₀ low₀ j₀ z x low j = OddLength n × (s ≡ orderOfTwo n) × (n ≤ length z) × (length z ≡ length z₀) × (j ≤ s) × (x < n) × (low ≤ j) × (x ≡ r * 2 ^ j % n) × Turned n r j z₀ z low
+Inv-loop n s r z₀ x₀ low₀ j₀ z x low j =
+    OddLength n × (s ≡ orderOfTwo n) × (n ≤ length z) × (length z ≡ length z₀) × (j ≤ s) × (x < n) × (low ≤ j)
+    × (x ≡ r * 2 ^ j % n) × Turned n r j z₀ z low
 
 abbrev μ-loop : tie.MeasureT-loop
 μ-loop n s r z₀ x₀ low₀ j₀ z x low j = s - j
@@ -42,8 +40,18 @@ loop-less : tie.Need-loop-less Inv-loop μ-loop
 loop-less c = omega arith
 
 loop-again : tie.Need-loop-again Inv-loop μ-loop
-loop-again c = let v = c .before .before .before .loop .inv in let y = c .twice .ensures in let e = c .before .below .ensures .0 in
-    (v .0, v .1, simp length-set (v .2), simp length-set (v .3), omega arith, count-lt (v .0) _ _ y, omega (arith, c .before .below .ensures .1), walk-more (v .0) _ _ (v .7) y, rw (← e) at (turned-more (v .2) (v .5) (v .7) (v .8)))
+loop-again c = let v = c .before .before .before .loop .inv in let y = c .twice .ensures in let e = c .before .below .ensures .0 in (
+  v .0,
+  v .1,
+  simp length-set (v .2),
+  simp length-set (v .3),
+  omega arith,
+  count-lt (v .0) _ _ y,
+  omega
+      (arith, c .before .below .ensures .1),
+  walk-more (v .0) _ _ (v .7) y,
+  rw (← e) at (turned-more (v .2) (v .5) (v .7) (v .8)),
+)
 
 same-length : tie.Need-same-length Inv-loop μ-loop
 same-length c = c .before .loop .inv .3

@@ -8,8 +8,6 @@ use Rattle.field.specs.Search.{total}
 use Rattle.field.proofs.Search.{total-z, total-more}
 use Rattle.code.proofs.cosets.marks.Statement.{statement}
 use Rattle.code.proofs.cosets.marks.Tie as tie
-use Rattle.code.proofs.cosets.marks.Reads as reads
-use Rattle.code.proofs.cosets.marks.Lts as lts
 
 abbrev Inv-loop : tie.InvT-loop
 Inv-loop n z size₀ i₀ size i = (n ≤ length z) × (n ≤ 65535) × (i ≤ n) × (size ≤ 255 * i) × (size ≡ total i (λ k. getD z k 0))

@@ -4,8 +4,6 @@ use mathlib.Core.Path.{refl}
 use borrow.Author.Needs.{needs}
 use Rattle.code.proofs.sheet.byte.Statement.{statement}
 use Rattle.code.proofs.sheet.byte.Tie as tie
-use Rattle.code.proofs.sheet.byte.Reads as reads
-use Rattle.code.proofs.sheet.byte.Lts as lts
 
 shared-slice-read-result : tie.Need-shared-slice-read-result
 shared-slice-read-result c = search needs

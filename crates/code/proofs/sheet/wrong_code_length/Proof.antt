@@ -4,9 +4,6 @@ use Rattle.code.proofs.Header.{code-1, code-2, code-3, code-pass}
 use borrow.Author.Needs.{needs}
 use Rattle.code.proofs.sheet.wrong_code_length.Statement.{statement}
 use Rattle.code.proofs.sheet.wrong_code_length.Tie as tie
-use Rattle.code.proofs.sheet.wrong_code_length.Reads as reads
-use Rattle.code.proofs.sheet.wrong_code_length.Lts as lts
-use Rattle.code.proofs.sheet.byte.Reads as byte-reads
 
 byte-requires : tie.Need-byte-requires
 byte-requires c κs = search needs

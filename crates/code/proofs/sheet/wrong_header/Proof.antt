@@ -4,10 +4,6 @@ use Rattle.code.proofs.Header.{header-1, header-2, header-3, header-4, 
 use borrow.Author.Needs.{needs}
 use Rattle.code.proofs.sheet.wrong_header.Statement.{statement}
 use Rattle.code.proofs.sheet.wrong_header.Tie as tie
-use Rattle.code.proofs.sheet.wrong_header.Reads as reads
-use Rattle.code.proofs.sheet.wrong_header.Lts as lts
-use Rattle.code.proofs.sheet.byte.Reads as byte-reads
-use Rattle.code.proofs.sheet.number.Reads as number-reads
 
 byte-requires : tie.Need-byte-requires
 byte-requires c κs = search needs

@@ -4,9 +4,6 @@ use Rattle.code.proofs.Header.{length-1, length-2, length-3, length-pas
 use borrow.Author.Needs.{needs}
 use Rattle.code.proofs.sheet.wrong_length.Statement.{statement}
 use Rattle.code.proofs.sheet.wrong_length.Tie as tie
-use Rattle.code.proofs.sheet.wrong_length.Reads as reads
-use Rattle.code.proofs.sheet.wrong_length.Lts as lts
-use Rattle.code.proofs.sheet.number.Reads as number-reads
 
 returns : tie.Need-returns
 returns c = length-1 _ (omega arith)

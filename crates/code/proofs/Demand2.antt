@@ -1,7 +1,6 @@
 -- Codewords and encoding, in the words of the definitions alone: for each n of Length, and any representatives.
 --
---   valueAt s a c        the value of the mask c at the element a: the sum of a^i over the places i of c that hold a 1
---   value-zero           it is 0 exactly where the theory's value is
+--   value-zero           a mask's value at an element (valueAt of the definitions) is 0 exactly where the theory's value is
 --   codeword-iff, encode-is      codewords and encoding are the theory's
 --   multiple-iff         a codeword is a multiple of the generator,
 --   defining-iff         a mask that is 0 at α^i for each i of D,
@@ -41,18 +40,11 @@ use Rattle.cyclic.proofs.Coset.{vanishes-iff}
 use Rattle.cyclic.proofs.Generator as Generator
 use Rattle.cyclic.proofs.Encode as Encode
 use Rattle.code.specs.Coset.{inSet, dimension}
-use Rattle.code.specs.Generator.{generator, isCodeword, encodeMask, messageOf}
+use Rattle.code.specs.Generator.{valueBelow, valueAt, generator, isCodeword, encodeMask, messageOf}
 use Rattle.code.proofs.Theory.{Length, degree, T-of, of-T, representatives, codeOf, checks-are, dimension-is}
 use Rattle.code.proofs.GeneratorIs.{generator-is, generator-degree}
 
 -- ---- values on plain numbers
--- of the first m places of c
-unfoldable pub valueBelow : ℕ → ℕ → ℕ → ℕ → ℕ
-valueBelow s a zero c = 0
-valueBelow s a (suc m) c = valueBelow s a m c ⊕ coefficient m c * fieldPower s a m
-
-unfoldable pub valueAt : ℕ → ℕ → ℕ → ℕ
-valueAt s a c = valueBelow s a (size c) c
 
 module _ {s : ℕ} (d : Degree s) (a c : ℕ) where
   term-lt : (m : ℕ) → coefficient m c * fieldPower s a m < 2 ^ s

@@ -7,6 +7,7 @@ pub mod Terms
 pub mod Checks
 pub mod Sane
 pub mod Chain
+pub mod Acceptance
 pub mod Weighing
 pub mod Judging
 pub mod Header

@@ -4,17 +4,18 @@
 --   generatorPoly n reps       the product of x - α^i over D
 --   maskOfPoly p               a polynomial with coefficients 0 and 1 as a mask
 --   generator n reps           the mask that its coefficients are
+--   valueAt s a c              the value of the mask c at the element a
 --   isCodeword m g c           c is a multiple of the generator g of degree m
 --   encodeMask m g message     the codeword of a message; messageOf m c: the message of a codeword
 --   differences n a b          in how many of n places two words differ
 --   nearest k m g n t r        the first message whose codeword differs from r in at most t places; 2^k if there is none
 use mathlib.Core.Bool.{Bool}
 use mathlib.Core.List.{List, [], _∷_, map}
-use Prim.Native.Nat.{ℕ, _+_, _-_, _*_, _/_, _^_}
+use Prim.Native.Nat.{ℕ, zero, suc, _+_, _-_, _*_, _/_, _^_}
 use lib.Dec.{eqb, leb}
 use lib.ListN.{length, getD}
 use Rattle.field.specs.Search.{least, total}
-use Rattle.field.specs.Mask.{_⊕_, coefficient, remainder}
+use Rattle.field.specs.Mask.{_⊕_, coefficient, size, remainder}
 use Rattle.field.specs.Field.{fieldMultiply, fieldPower, orderOfTwo, α}
 use Rattle.code.specs.Coset.{definingSet}
 
@@ -42,6 +43,14 @@ maskOfPoly p = total (length p) (λ i. getD p i 0 * 2 ^ i)
 -- "It has coefficients 0 and 1 only."
 unfoldable pub generator : ℕ → List ℕ → ℕ
 generator n reps = maskOfPoly (generatorPoly n reps)
+
+-- what demand 2 says of codewords: the sum of a^i over the first m places i of c that hold a 1, and over all
+unfoldable pub valueBelow : ℕ → ℕ → ℕ → ℕ → ℕ
+valueBelow s a zero c = 0
+valueBelow s a (suc m) c = valueBelow s a m c ⊕ coefficient m c * fieldPower s a m
+
+unfoldable pub valueAt : ℕ → ℕ → ℕ → ℕ
+valueAt s a c = valueBelow s a (size c) c
 
 -- "A codeword is a word of n bits, place i the coefficient of x^i, that is a multiple of the generator." m is n - k.
 unfoldable pub isCodeword : ℕ → ℕ → ℕ → Bool

@@ -1,5 +1,6 @@
 -- The generator of the definition is the generator of the theory.
 --
+--   times-at             the product with x - a, coefficient by coefficient
 --   product-at           the product of x - a^i, coefficient by coefficient, is the theory's product
 --   product-small        its coefficients are elements of the field
 --   total-gather         a sum of weighted digits is the mask with those digits
@@ -42,20 +43,21 @@ getD-map f h [] i = sym h
 getD-map f h (a ∷ p) zero = refl
 getD-map f h (a ∷ p) (suc i) = getD-map f h p i
 
-module _ {s : ℕ} (d : Degree s) (a : ℕ) where
-  -- coefficient by coefficient: x p + a^i p
-  times-at : (b : ℕ) (p : List ℕ) (i : ℕ) → getD (timesRoot s b p) i 0 ≡ getD (0 ∷ p) i 0 ⊕ fieldMultiply s b (getD p i 0)
-  unfolding timesRoot
-  times-at b p i =
-      add-at (0 ∷ p) (map (fieldMultiply s b) p) i
-      ∙ ap (λ (x : ℕ). getD (0 ∷ p) i 0 ⊕ x) (getD-map (fieldMultiply s b) (multiply-zero d b) p i)
+-- coefficient by coefficient: x p + a p
+pub times-at : {s : ℕ} → Degree s → (b : ℕ) (p : List ℕ) (i : ℕ)
+    → getD (timesRoot s b p) i 0 ≡ getD (0 ∷ p) i 0 ⊕ fieldMultiply s b (getD p i 0)
+unfolding timesRoot
+times-at {s} d b p i =
+    add-at (0 ∷ p) (map (fieldMultiply s b) p) i
+    ∙ ap (λ (x : ℕ). getD (0 ∷ p) i 0 ⊕ x) (getD-map (fieldMultiply s b) (multiply-zero d b) p i)
 
+module _ {s : ℕ} (d : Degree s) (a : ℕ) where
   pub product-small : (l : List ℕ) (i : ℕ) → getD (rootProduct s a l) i 0 < 2 ^ s
   unfolding rootProduct
   product-small [] zero = one-lt d
   product-small [] (suc i) = omega (arith, one-lt d)
   product-small (j ∷ l) i =
-      subst (λ (x : ℕ). x < 2 ^ s) (sym (times-at (fieldPower s a j) (rootProduct s a l) i))
+      subst (λ (x : ℕ). x < 2 ^ s) (sym (times-at d (fieldPower s a j) (rootProduct s a l) i))
       (⊕-lt s _ _ (moved i (product-small l)) (multiply-lt d (fieldPower s a j) (getD (rootProduct s a l) i 0)))
     where
       moved : (i : ℕ) → ((k : ℕ) → getD (rootProduct s a l) k 0 < 2 ^ s) → getD (0 ∷ rootProduct s a l) i 0 < 2 ^ s
@@ -70,7 +72,7 @@ module _ {s : ℕ} (d : Degree s) (a : ℕ) where
       one zero = el-one d
       one (suc i) = el-zero d
   product-at (j ∷ l) i =
-      ap (el d) (times-at b p i) ∙ el-add d (getD (0 ∷ p) i 0) (fieldMultiply s b (getD p i 0))
+      ap (el d) (times-at d b p i) ∙ el-add d (getD (0 ∷ p) i 0) (fieldMultiply s b (getD p i 0))
       ∙ ap (GF d .add (el d (getD (0 ∷ p) i 0))) (el-mul d b (getD p i 0)) ∙ go i (product-at l)
       ∙ sym (ap (λ q. q i) (prod-cons (Ser (GF d)) (lin (GF d)) (pow (GF d) (el d a) j) (map (pow (GF d) (el d a)) l)))
     where

@@ -16,4 +16,5 @@ pub mod Places
 pub mod PlaceLoops
 pub mod Theory
 pub mod GeneratorIs
+pub mod TimesRoot
 pub mod Demand2

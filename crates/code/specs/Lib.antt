@@ -9,3 +9,4 @@ pub mod Entry
 pub mod Card
 pub mod Stage
 pub mod Place
+pub mod Coefficients

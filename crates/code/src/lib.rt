@@ -1,6 +1,7 @@
 // Everything document 01 says of sheets, certificates, words and messages.
 mod certificate;
 mod cosets;
+mod generator;
 pub mod judge;
 mod layout;
 mod sheet;

@@ -1,4 +1,5 @@
 // Everything document 01 says of sheets, certificates, words and messages.
+pub mod answer;
 mod certificate;
 mod cosets;
 mod generator;

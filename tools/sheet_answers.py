@@ -1,0 +1,196 @@
+#!/usr/bin/env python3
+# The sheets that the program crates/sheet_answers is handed, and the answers that it must write, made without any of its code:
+#
+#     tools/sheet_answers.py sheets  > crates/sheet_answers/stdin
+#     tools/sheet_answers.py answers > crates/sheet_answers/stdout
+#
+# A sheet is handed over as a byte with its length and 80 bytes, of which the first so many count. Polynomials over two
+# elements are sets of exponents. An answer is 'accepted n k s working d t terms' or 'refused number'.
+import sys
+from math import gcd
+
+
+def bits(mask):
+    return frozenset(i for i in range(mask.bit_length()) if mask >> i & 1)
+
+
+def divide(a, b):
+    quotient, a = set(), set(a)
+    while a and max(a) >= max(b):
+        shift = max(a) - max(b)
+        quotient.add(shift)
+        a ^= {i + shift for i in b}
+    return quotient, a
+
+
+def common_factor(a, b):
+    while b:
+        a, b = b, divide(a, b)[1]
+    return max(a)
+
+
+def period(f):
+    p = 1
+    while divide({0, p}, f)[1]:
+        p += 1
+    return p
+
+
+def series(h, f, count):
+    # long division from the low end: each step takes off the lowest term
+    rest, terms = set(h), []
+    for j in range(count):
+        terms.append(1 if j in rest else 0)
+        if j in rest:
+            rest ^= {i + j for i in f}
+    return terms
+
+
+def coset(r, n):
+    members = set()
+    while r not in members:
+        members.add(r)
+        r = 2 * r % n
+    return members
+
+
+def certificate_answer(n, zeros, c):
+    b, z, f, h, zero, terms = c[0], c[1], bits(c[2] + 256 * c[3]), bits(c[4]), c[5], c[6] + 256 * c[7]
+    u = max(f, default=0)
+    v = max(h, default=0)
+    good = b < n and 1 <= z < n and gcd(z, n) == 1 and 1 <= u <= 8 and 0 in f and h and v < u and 1 <= terms <= 1023 and zero == 0
+    if not good:
+        return 7, 0, 0
+    if common_factor(f, h) > 0:
+        return 8, 0, 0
+    if gcd(period(f), n) != 1:
+        return 9, 0, 0
+    for j, a in enumerate(series(h, f, terms)):
+        if a and (b + j * z) % n not in zeros:
+            return 10, 0, 0
+    return 0, max(0, -((v - terms) // u)) + 1, terms
+
+
+def answer(sheet):
+    length = len(sheet)
+    if length < 10 or length > 74 or sheet[0] + 256 * sheet[1] != length:
+        return 'refused 1'
+    n, count, certificates = sheet[2], sheet[3], sheet[6]
+    if n % 2 == 0 or n < 3 or n > 127:
+        return 'refused 2'
+    s = len(coset(1, n))
+    if s > 12:
+        return 'refused 3'
+    if (count > 32 or sheet[4] + 256 * sheet[5] != 10 or not 1 <= certificates <= 4 or sheet[7] != 0
+            or sheet[8] + 256 * sheet[9] != 10 + count or length != 10 + count + 8 * certificates):
+        return 'refused 4'
+    representatives = sheet[10:10 + count]
+    zeros = set()
+    for i, r in enumerate(representatives):
+        if r >= n or r != min(coset(r, n)) or (i and r <= representatives[i - 1]):
+            return 'refused 5'
+        zeros |= coset(r, n)
+    if len(zeros) == n:
+        return 'refused 6'
+    best = None
+    for c in range(certificates):
+        at = 10 + count + 8 * c
+        number, d, terms = certificate_answer(n, zeros, sheet[at:at + 8])
+        if number:
+            return 'refused %d' % number
+        t = (d - 1) // 2
+        if best is None or t > best[2]:
+            best = c, d, t, terms
+    working, d, t, terms = best
+    return 'accepted %d %d %d %d %d %d %d' % (n, n - len(zeros), s, working, d, t, terms)
+
+
+def certificate(b, z, f, h, terms, zero=0):
+    return [b, z, f % 256, f // 256, h, zero, terms % 256, terms // 256]
+
+
+def sheet(n, representatives, *certificates):
+    length = 10 + len(representatives) + 8 * len(certificates)
+    return ([length % 256, length // 256, n, len(representatives), 10, 0, len(certificates), 0, 10 + len(representatives), 0]
+            + list(representatives) + sum(certificates, []))
+
+
+def changed(base, place, value):
+    return base[:place] + [value] + base[place + 1:]
+
+
+def known():
+    h = sheet(7, [1], certificate(1, 1, 3, 1, 2))
+    s = sheet(17, [1], certificate(13, 1, 7, 3, 9))
+    yield h
+    yield sheet(7, [0, 1], certificate(0, 1, 3, 1, 3))
+    yield sheet(7, [0, 1], certificate(0, 1, 3, 1, 4))
+    yield s
+    yield sheet(17, [1], certificate(13, 1, 7, 3, 10))
+    yield sheet(15, [1, 3], certificate(1, 1, 3, 1, 4))
+    yield sheet(15, [1, 3], certificate(1, 1, 3, 1, 5))
+    yield []
+    yield [9] + h[1:9]
+    yield changed(h, 0, 20)
+    yield h + [0]
+    for n in (0, 1, 2, 6, 19, 101, 126, 128, 129, 255):
+        yield changed(h, 2, n)
+    for place in range(3, 10):
+        yield changed(h, place, h[place] + 1)
+    for place in range(11, 19):
+        for value in (0, 2, 7, 255):
+            yield changed(h, place, value)
+    for representatives in ([2], [7], [3, 1], [1, 1], [0, 1, 3], [1, 3]):
+        yield sheet(7, representatives, certificate(1, 1, 3, 1, 2))
+    yield sheet(7, [1], certificate(1, 1, 5, 3, 2))
+    yield sheet(21, [1], certificate(1, 1, 7, 1, 2))
+    yield sheet(9, [1], certificate(1, 3, 3, 1, 1))
+    for n in (3, 7, 45, 65, 91, 117, 127):
+        yield sheet(n, [], certificate(0, 1, 7, 2, 1))
+        yield sheet(n, [], certificate(0, 1, 19, 8, 3))
+    # the distance is 1 where L is at most v
+    yield sheet(17, [], certificate(0, 1, 11, 4, 1))
+    bch = [1, 3, 5, 7, 9, 11, 13, 15, 19, 21]
+    yield sheet(127, bch, certificate(1, 1, 3, 1, 22))
+    yield sheet(127, bch, certificate(1, 1, 3, 1, 20), certificate(2, 2, 3, 1, 21), certificate(1, 1, 3, 1, 22), certificate(4, 4, 3, 1, 22))
+    yield sheet(127, bch, certificate(1, 1, 3, 1, 22), certificate(1, 1, 3, 1, 23), certificate(1, 1, 3, 1, 0))
+    yield sheet(127, bch, certificate(1, 1, 3, 1, 20), certificate(1, 1, 3, 1, 21))
+    yield sheet(127, [0] + bch, certificate(0, 1, 3, 1, 23), certificate(126, 126, 3, 1, 1))
+
+
+def drawn(count):
+    # a fixed sequence, so that the sheets are the same everywhere
+    state = 20261115
+
+    def draw(below):
+        nonlocal state
+        state = (state * 6364136223846793005 + 1442695040888963407) % 2 ** 64
+        return (state >> 33) % below
+
+    lengths = [n for n in range(3, 128, 2) if len(coset(1, n)) <= 12]
+    for _ in range(count):
+        n = lengths[draw(len(lengths))]
+        smallest = [r for r in range(n) if r == min(coset(r, n))]
+        representatives = [r for r in smallest if draw(3) != 0][:32]
+        zeros = set().union(*[coset(r, n) for r in representatives]) if representatives else set()
+        certificates = []
+        for _ in range(1 + draw(4)):
+            u = 1 + draw(3 + 5 * draw(2))
+            f = 2 ** u + 2 * draw(2 ** (u - 1)) + 1
+            h = 1 + draw(2 ** u - 1)
+            b, z = draw(n), 1 + draw(n - 1)
+            longest = 0
+            for j, a in enumerate(series(bits(h), bits(f), 1100)):
+                if a and (b + j * z) % n not in zeros:
+                    break
+                longest = j + 1
+            terms = max(1, min(longest, 1023)) if draw(4) else longest + draw(3)
+            certificates.append(certificate(b, z, f, h, terms))
+        yield sheet(n, representatives, *certificates)
+
+
+SHEETS = [s for s in list(known()) + list(drawn(400)) if len(s) <= 80]
+if sys.argv[1] == 'sheets':
+    sys.stdout.buffer.write(b''.join(bytes([len(s)] + s + [0] * (80 - len(s))) for s in SHEETS))
+else:
+    print('\n'.join(answer(s) for s in SHEETS))

@@ -17,4 +17,5 @@ pub mod PlaceLoops
 pub mod Theory
 pub mod GeneratorIs
 pub mod TimesRoot
+pub mod CosetFactor
 pub mod Demand2

@@ -21,18 +21,19 @@ use Rattle.field.specs.Search.{upTo, keep, some, total}
 use Rattle.field.specs.Field.{OddLength, orderOfTwo}
 use Rattle.field.proofs.Search.{true-ne-false, keep-suc, length-upTo, length-keep, total-z, total-s, total-ext}
 use Rattle.code.specs.declared.types.Best.{Best}
-use Rattle.code.specs.Answer.{Answer, returned, refused, Conditions, firstOf, settle}
-use Rattle.code.specs.Sheet.{byteAt, numberAt, codeLength, representatives, representativeCount, certificateCount}
-use Rattle.code.specs.Sheet.{certificate}
-use Rattle.code.specs.Coset.{inSet, definingSet, dimension}
-use Rattle.code.specs.Certificate.{distance, radius}
-use Rattle.code.specs.Judge.{wrongLength, wrongCodeLength, wrongDegree, wrongHeader, wrongRepresentative, noMessage}
-use Rattle.code.specs.Judge.{sheetConditions, certificateConditions, judgeConditions, dimensionOf, workingOf}
-use Rattle.code.specs.Judge.{workingCertificate}
-use Rattle.code.specs.Judge.{recordOf, judgeOf}
-use Rattle.code.specs.Stage.{Headed, Marks, Recordable, Judgeable, weighOf, bit}
-use Rattle.code.proofs.Header.{odd-length, length-1, headed}
-use Rattle.code.proofs.Sane.{settle-number, distance-pos, working-most}
+use Rattle.document.specs.Answer.{Answer, returned, refused, Conditions, firstOf, settle}
+use Rattle.document.specs.Sheet.{byteAt, numberAt, codeLength, representatives, representativeCount, certificateCount}
+use Rattle.document.specs.Sheet.{certificate}
+use Rattle.document.specs.Coset.{inSet, definingSet, dimension}
+use Rattle.document.specs.Certificate.{distance, radius}
+use Rattle.document.specs.Judge.{wrongLength, wrongCodeLength, wrongDegree, wrongHeader, wrongRepresentative, noMessage}
+use Rattle.document.specs.Judge.{sheetConditions, certificateConditions, judgeConditions, dimensionOf, workingOf}
+use Rattle.document.specs.Judge.{workingCertificate}
+use Rattle.document.specs.Judge.{recordOf, judgeOf}
+use Rattle.sheet.specs.Stage.{Headed, Marks, bit}
+use Rattle.code.specs.Weigh.{Recordable, Judgeable, weighOf}
+use Rattle.sheet.proofs.Header.{odd-length, length-1, headed}
+use Rattle.document.proofs.Sane.{settle-number, distance-pos, working-most}
 use Rattle.code.proofs.Weighing.{settle-refused}
 
 abbrev six : Bool → Bool → Bool → Bool → Bool → Bool → Conditions → List ℕ → Answer

@@ -1,21 +1,3 @@
--- Laws of the definitions, and the proved tables.
-pub mod Cases
-pub mod DefiningSet
-pub mod Listed
-pub mod Ranges
-pub mod Terms
-pub mod Checks
-pub mod Sane
-pub mod Chain
-pub mod Acceptance
+-- From the parts to the entries.
 pub mod Weighing
 pub mod Judging
-pub mod Header
-pub mod Digits
-pub mod Places
-pub mod PlaceLoops
-pub mod Theory
-pub mod GeneratorIs
-pub mod TimesRoot
-pub mod CosetFactor
-pub mod Demand2

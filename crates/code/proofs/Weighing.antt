@@ -13,20 +13,21 @@ use native.Mathlib.Omega.{arith}
 use lib.Dec.{ltb}
 use borrow.Author.Tests.{lt-ltb, le-ltb}
 use Rattle.field.specs.Search.{upTo}
-use Rattle.code.specs.declared.types.Refusal.{Refusal}
-use Rattle.code.specs.declared.types.Refusal.the-variants.{SheetLength, CodeLength, FieldDegree, Header, Representative}
-use Rattle.code.specs.declared.types.Refusal.the-variants.{NoMessage}
-use Rattle.code.specs.declared.types.Refusal.the-variants.{Range, CommonFactor, Period, Term, BufferLength, SpareBit}
-use Rattle.code.specs.declared.types.Refusal.the-variants.{NoneNear, NoCodeword}
+use Rattle.document.specs.declared.types.Refusal.{Refusal}
+use Rattle.document.specs.declared.types.Refusal.the-variants.{SheetLength, CodeLength, FieldDegree, Header, Representative}
+use Rattle.document.specs.declared.types.Refusal.the-variants.{NoMessage}
+use Rattle.document.specs.declared.types.Refusal.the-variants.{Range, CommonFactor, Period, Term, BufferLength, SpareBit}
+use Rattle.document.specs.declared.types.Refusal.the-variants.{NoneNear, NoCodeword}
 use Rattle.code.specs.declared.types.Best.{Best}
-use Rattle.code.specs.Answer.{Answer, returned, refused, numberOf, Conditions, firstOf, settle}
-use Rattle.code.specs.Sheet.{certificateCount, certificate}
-use Rattle.code.specs.Certificate.{distance, radius, working}
-use Rattle.code.specs.Judge.{certificateConditions, workingOf, workingCertificate}
-use Rattle.code.specs.Stage.{Headed, Checkable, Weighable, checkOf, weighOf, bestOf, chosen}
-use Rattle.code.proofs.Sane.{settle-number, distance-pos}
-use Rattle.code.proofs.Chain.{Quiet, silent, first-quiet, quiet-append, flat, flat-suc, four-quiet, flat-stop}
-use Rattle.code.proofs.Chain.{working-is, First, first-one, first-new, first-same}
+use Rattle.document.specs.Answer.{Answer, returned, refused, numberOf, Conditions, firstOf, settle}
+use Rattle.document.specs.Sheet.{certificateCount, certificate}
+use Rattle.document.specs.Certificate.{distance, radius, working}
+use Rattle.document.specs.Judge.{certificateConditions, workingOf, workingCertificate}
+use Rattle.sheet.specs.Stage.{Headed, Checkable, checkOf}
+use Rattle.code.specs.Weigh.{Weighable, weighOf, bestOf, chosen}
+use Rattle.document.proofs.Sane.{settle-number, distance-pos}
+use Rattle.document.proofs.Chain.{Quiet, silent, first-quiet, quiet-append, flat, flat-suc, four-quiet, flat-stop}
+use Rattle.document.proofs.Chain.{working-is, First, first-one, first-new, first-same}
 
 pub number-pos : (r : Refusal) → 0 < numberOf r
 number-pos SheetLength = omega arith

@@ -1,12 +1,1 @@
-pub mod Answer
-pub mod Layout
-pub mod Sheet
-pub mod Coset
-pub mod Generator
-pub mod Certificate
-pub mod Judge
-pub mod Entry
-pub mod Card
-pub mod Stage
-pub mod Place
-pub mod Coefficients
+pub mod Weigh

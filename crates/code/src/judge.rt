@@ -2,25 +2,26 @@
 ghost use mathlib.Core.Path.{_≡_};
 ghost use Prim.Native.Nat.{_+_, _-_, _/_, _<_, _≤_};
 ghost use mathlib.Core.List.{[]};
-ghost use Rattle.code.specs.Answer.{recordAs, judgedAs};
-ghost use Rattle.code.specs.Sheet.{codeLength};
-ghost use Rattle.code.specs.Judge.{recordOf, judgeOf};
-ghost use Rattle.code.specs.Stage.{Marks, Weighable, Recordable, Judgeable, bestOf, weighedAs, weighOf};
-use crate::certificate::check;
-use crate::cosets::marks;
-use crate::cosets::wrong_representative;
-use crate::sheet::byte;
-use crate::sheet::number;
-use crate::sheet::wrong_code_length;
-use crate::sheet::wrong_degree;
-use crate::sheet::wrong_header;
-use crate::sheet::wrong_length;
+ghost use Rattle.document.specs.Answer.{recordAs, judgedAs};
+ghost use Rattle.document.specs.Sheet.{codeLength};
+ghost use Rattle.document.specs.Judge.{recordOf, judgeOf};
+ghost use Rattle.sheet.specs.Stage.{Marks};
+ghost use Rattle.code.specs.Weigh.{Weighable, Recordable, Judgeable, bestOf, weighedAs, weighOf};
 use crate::types::Best;
-use crate::types::Checked;
-use crate::types::Judged;
-use crate::types::Record;
-use crate::types::Refusal;
 use crate::types::Weighed;
+use document::types::Judged;
+use document::types::Record;
+use document::types::Refusal;
+use sheet::certificate::check;
+use sheet::cosets::marks;
+use sheet::cosets::wrong_representative;
+use sheet::sheet::byte;
+use sheet::sheet::number;
+use sheet::sheet::wrong_code_length;
+use sheet::sheet::wrong_degree;
+use sheet::sheet::wrong_header;
+use sheet::sheet::wrong_length;
+use sheet::types::Checked;
 
 // The better of the best so far and certificate i with distance e: the later one only where its t is larger. A distance of 0
 // stands for none so far. ((d + 1) / 2 is t + 1.)

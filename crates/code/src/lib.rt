@@ -1,9 +1,3 @@
-// Everything document 01 says of sheets, certificates, words and messages.
-pub mod answer;
-mod certificate;
-mod cosets;
-mod generator;
+// The entries.
 pub mod judge;
-mod layout;
-mod sheet;
-pub mod types;
+mod types;

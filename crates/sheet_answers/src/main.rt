@@ -1,10 +1,10 @@
 // Sheets from standard input, each a byte with its length and 80 bytes, and for each a line with its answer.
 // tools/sheet_answers.py makes the sheets, and the same lines with none of this code.
-use code::answer::refusal_number;
 use code::judge::judge;
-use code::types::Judged;
-use code::types::Record;
-use code::types::Refusal;
+use document::answer::refusal_number;
+use document::types::Judged;
+use document::types::Record;
+use document::types::Refusal;
 use libc::STDIN_FILENO;
 use libc::STDOUT_FILENO;
 

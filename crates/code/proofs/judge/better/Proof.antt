@@ -1,7 +1,7 @@
 -- `code::judge::better` meets its contract: by the test.
 use mathlib.Core.Path.{sym, ap}
 use borrow.Author.Tests.{lt-ltb, le-ltb}
-use Rattle.code.specs.Stage.{chosen}
+use Rattle.code.specs.Weigh.{chosen}
 use borrow.Author.Needs.{needs}
 use Rattle.code.proofs.judge.better.Statement.{statement}
 use Rattle.code.proofs.judge.better.Tie as tie

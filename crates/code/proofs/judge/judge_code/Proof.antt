@@ -2,8 +2,8 @@
 use native.Mathlib.Omega.{arith}
 use native.Mathlib.Omega.{arith}
 use mathlib.Core.Path.{_≡_, refl, sym, ap, _∙_, subst}
-use Rattle.code.specs.Stage.{weighedAs}
-use Rattle.code.specs.Answer.{numberOf, returned}
+use Rattle.code.specs.Weigh.{weighedAs}
+use Rattle.document.specs.Answer.{numberOf, returned}
 use Rattle.code.proofs.Weighing.{number-pos}
 use Rattle.code.proofs.Judging.{judge-5, judge-6, judge-refused, judge-accepted, size-is, none-left, some-left, recordable}
 use Rattle.code.proofs.Judging.{headed-length, headed-reps, headed-certs, odd-of, marks-at}

@@ -1,0 +1,131 @@
+-- What is accepted, and what a refusal says of the conditions.
+--
+--   accepted-iff         a sheet is accepted exactly when no condition 1 to 10 holds
+--   refused-first        a refusal is the number of a condition that holds, and none before it does
+--   certificate-iff      a certificate draws none of 7 to 10 exactly when it meets rules 1 to 4
+use mathlib.Core.Path.{_≡_, refl, sym, ap, _∙_, subst}
+use mathlib.Core.Logic.{_↔_, _⊎_, inl, inr}
+use mathlib.Core.Bool.{Bool, true, false, not}
+use mathlib.Core.List.{List, [], _∷_, _++_, flatMap}
+use Prim.Native.Nat.{ℕ, zero, suc, _+_, _<_}
+use native.Mathlib.Omega.{arith}
+use Rattle.field.specs.Search.{upTo}
+use Rattle.document.specs.Answer.{Answer, Conditions, firstOf, settle}
+use Rattle.document.specs.Sheet.{codeLength, representatives, certificateCount, certificate}
+use Rattle.document.specs.Certificate.{rule1, rule2, rule3, rule4}
+use Rattle.document.specs.Judge.{sheetConditions, certificateConditions, judgeConditions, recordOf, judgeOf}
+use Rattle.document.proofs.Chain.{Quiet, silent, passing}
+use Rattle.document.proofs.Sane.{settle-number, passed}
+
+-- every condition has a number above 0
+data Numbered : Conditions → Type 0 where
+  none : Numbered []
+  more : {c : ℕ × Bool} {l : Conditions} → 0 < c .0 → Numbered l → Numbered (c ∷ l)
+
+number : (r : ℕ) (b : Bool) {l : Conditions} → 0 < r → Numbered l → Numbered ((r, b) ∷ l)
+number r b h p = more {c = (r, b)} h p
+
+numbered-append : {a b : Conditions} → Numbered a → Numbered b → Numbered (a ++ b)
+numbered-append none q = q
+numbered-append (more h p) q = more h (numbered-append p q)
+
+six : (sheet : List ℕ) → Numbered (sheetConditions sheet)
+unfolding sheetConditions
+six sheet =
+    let above : (r : ℕ) → 0 < suc r = λ r. omega arith in
+    number 1 _ (above 0)
+    (number 2 _ (above 1) (number 3 _ (above 2) (number 4 _ (above 3) (number 5 _ (above 4) (number 6 _ (above 5) none)))))
+
+four : (sheet : List ℕ) (i : ℕ) → Numbered (certificateConditions sheet i)
+unfolding certificateConditions
+four sheet i =
+    let above : (r : ℕ) → 0 < suc r = λ r. omega arith in
+    number 7 _ (above 6) (number 8 _ (above 7) (number 9 _ (above 8) (number 10 _ (above 9) none)))
+
+fours : (sheet : List ℕ) (l : List ℕ) → Numbered (flatMap (certificateConditions sheet) l)
+unfolding flatMap
+fours sheet [] = none
+fours sheet (i ∷ l) = numbered-append (four sheet i) (fours sheet l)
+
+all-numbered : (sheet : List ℕ) → Numbered (judgeConditions sheet)
+unfolding judgeConditions
+all-numbered sheet = numbered-append (six sheet) (fours sheet (upTo (certificateCount sheet)))
+
+-- a list of conditions taken apart at the first that holds
+pub record Drawn (l : Conditions) (r : ℕ) : Type 0 where
+  pub before : Conditions
+  pub after : Conditions
+  pub parts : l ≡ before ++ ((r, true) ∷ after)
+  pub quiet : Quiet before
+
+first-is : (l : Conditions) → Numbered l → (Quiet l × (firstOf l ≡ 0)) ⊎ ((0 < firstOf l) × Drawn l (firstOf l))
+unfolding firstOf
+first-is [] none = inl (silent, refl)
+first-is ((r, true) ∷ l) (more h p) = inr (h, record { before = []; after = l; parts = refl; quiet = silent })
+first-is ((r, false) ∷ l) (more h p) =
+    elim (first-is l p) [
+      | inl q ↦ inl (passing refl (q .0), q .1)
+      | inr q ↦ inr (
+        q .0,
+        record {
+          before = (r, false) ∷ q .1 .before;
+          after = q .1 .after;
+          parts = ap (λ x. (r, false) ∷ x) (q .1 .parts);
+          quiet = passing refl (q .1 .quiet);
+        },
+      )
+    ]
+
+judge-number : (sheet : List ℕ) → judgeOf sheet .number ≡ firstOf (judgeConditions sheet)
+unfolding judgeOf
+judge-number sheet = settle-number (firstOf (judgeConditions sheet)) (recordOf sheet) [] []
+
+quiet-first : {l : Conditions} → Quiet l → firstOf l ≡ 0
+unfolding firstOf
+quiet-first silent = refl
+quiet-first (passing {c = c} {l = l} e q) = rw (firstOf, e, quiet-first q)
+
+pub accepted-iff : (sheet : List ℕ) → (judgeOf sheet .number ≡ 0) ↔ Quiet (judgeConditions sheet)
+accepted-iff sheet = (
+  λ e. elim (first-is (judgeConditions sheet) (all-numbered sheet)) [
+    | inl q ↦ q .0
+    | inr q ↦ absurd (omega (arith, q .0, judge-number sheet, e))
+  ],
+  λ q. judge-number sheet ∙ quiet-first q,
+)
+
+pub refused-first : (sheet : List ℕ) → 0 < judgeOf sheet .number → Drawn (judgeConditions sheet) (judgeOf sheet .number)
+refused-first sheet h =
+    elim (first-is (judgeConditions sheet) (all-numbered sheet)) [
+      | inl q ↦ absurd (omega (arith, q .1, judge-number sheet, h))
+      | inr q ↦ subst (Drawn (judgeConditions sheet)) (sym (judge-number sheet)) (q .1)
+    ]
+
+-- ---- one certificate
+not-false : (b : Bool) → not b ≡ false → b ≡ true
+not-false true e = refl
+not-false false e = sym e
+
+pub record Rules (sheet : List ℕ) (i : ℕ) : Type 0 where
+  pub range : rule1 (codeLength sheet) (certificate sheet i) ≡ true
+  pub factor : rule2 (certificate sheet i) ≡ true
+  pub period : rule3 (codeLength sheet) (certificate sheet i) ≡ true
+  pub terms : rule4 (codeLength sheet) (representatives sheet) (certificate sheet i) ≡ true
+
+pub certificate-iff : (sheet : List ℕ) (i : ℕ) → (firstOf (certificateConditions sheet i) ≡ 0) ↔ Rules sheet i
+unfolding certificateConditions
+certificate-iff sheet i = (
+  λ e.
+      let p₁ = passed 6 _ _ e in
+      let p₂ = passed 7 _ _ (p₁ .1) in
+      let p₃ = passed 8 _ _ (p₂ .1) in
+      let p₄ = passed 9 _ _ (p₃ .1) in
+      record {
+        range = not-false _ (p₁ .0);
+        factor = not-false _ (p₂ .0);
+        period = not-false _ (p₃ .0);
+        terms = not-false _ (p₄ .0);
+      },
+  λ q. quiet-first (passing (ap not (q .range))
+      (passing (ap not (q .factor)) (passing (ap not (q .period)) (passing (ap not (q .terms)) silent)))),
+)

@@ -1,0 +1,245 @@
+-- The twelve cases of document 01, "Known sheets and words", as one table that the definitions hold; the fourteen examples of
+-- its table of refusals as a second; and the listing of sheet H.
+--
+--   sheetH, sheetE, sheetS, sheetB      the known sheets, in bytes
+--   facts, encodes, decodes             what the definitions say, as numbers
+--   said, expected, cases-hold          the twelve cases: what the definitions say is what document 01 says
+--   refusals-hold                       the examples of "Refused, by number", 1 to 14, by their numbers
+--   near-hold                           near misses: rows that definitions a step away would get wrong
+--   listing-holds                       the listing of sheet H, byte for byte
+-- Where document 01 abbreviates an example of a refusal, the sheet is H with what is said changed.
+use mathlib.Core.Path.{_≡_, refl}
+use mathlib.Core.List.{List, [], _∷_, _++_, map, flatMap}
+use Prim.Native.Nat.{ℕ, zero, suc, _+_}
+use lib.ListN.{length, getD, set, replicate}
+use Rattle.field.specs.Search.{leastFrom, least, upTo, keep, some, every, total}
+use Rattle.field.specs.Mask.{_⊕_, size, productBelow, clmul, divideDown, remainder}
+use Rattle.field.specs.Field.{masks, mask, fieldMultiply, fieldPower, α, orderOfTwo}
+use Rattle.poly.specs.Factor.{coprime, degree, divides, common, period, terms}
+use Rattle.document.specs.Answer.{Answer, firstOf, settle}
+use Rattle.document.specs.Layout.{wordWeight, messageWeight, bytesFor, place, maskOf, byteOf, bytesOf, spare}
+use Rattle.document.specs.Sheet.{statedLength, codeLength, representativeCount, representativesAt, certificateCount, zeroOf}
+use Rattle.document.specs.Sheet.{certificatesAt, representatives, certificate}
+use Rattle.document.specs.Coset.{inCoset, smallest, inSet, definingSet, dimension}
+use Rattle.document.specs.Generator.{addPoly, timesRoot, rootProduct, generatorPoly, maskOfPoly, generator, isCodeword}
+use Rattle.document.specs.Generator.{encodeMask, messageOf, differences, nearest}
+use Rattle.document.specs.Certificate.{steps, ratio, extent, rule1, rule2, rule3, rule4, distance, radius, working}
+use Rattle.document.specs.Judge.{wrongLength, wrongCodeLength, wrongDegree, wrongHeader, wrongRepresentative, noMessage}
+use Rattle.document.specs.Judge.{sheetConditions, certificateConditions, judgeConditions, dimensionOf, workingOf}
+use Rattle.document.specs.Judge.{workingCertificate}
+use Rattle.document.specs.Judge.{recordOf, judgeOf}
+use Rattle.document.specs.Entry.{generatorOf, radiusOf, encodeConditions, encodedWord, encodeOf, readConditions, readOf}
+use Rattle.document.specs.Entry.{nearestMessage, decodedWord, decodeConditions, decodeOf}
+use Rattle.document.specs.Card.{decimalIn, decimal, codeLine, zerosLine, generatorLine, certificateLine, radiusLine}
+use Rattle.document.specs.Card.{refusedLine, acceptedLines, listingFor, listing}
+
+-- all definitions, for the lemmas that compute
+definitions : ℕ
+unfolding leastFrom least upTo keep some every total _⊕_ size productBelow clmul divideDown remainder masks mask
+    fieldMultiply fieldPower α orderOfTwo firstOf settle wordWeight messageWeight bytesFor place maskOf byteOf bytesOf
+    spare statedLength codeLength representativeCount representativesAt certificateCount zeroOf certificatesAt
+    representatives certificate inCoset smallest inSet definingSet dimension addPoly timesRoot rootProduct generatorPoly
+    maskOfPoly generator isCodeword encodeMask messageOf differences nearest degree coprime divides common period terms
+    steps ratio extent rule1 rule2 rule3 rule4 distance radius working wrongLength wrongCodeLength wrongDegree wrongHeader
+    wrongRepresentative noMessage sheetConditions certificateConditions judgeConditions dimensionOf workingOf
+    workingCertificate recordOf judgeOf generatorOf radiusOf encodeConditions encodedWord encodeOf readConditions readOf
+    nearestMessage decodedWord decodeConditions decodeOf flatMap
+definitions = 0
+
+-- a sheet of its numbers: n, representatives, certificates (b, z, f, h, L, all below 256)
+sheetOf : ℕ → List ℕ → List ℕ → ℕ → ℕ → List ℕ
+sheetOf n reps certificate length-low count =
+    length-low ∷ 0 ∷ n ∷ length reps ∷ 10 ∷ 0 ∷ count ∷ 0 ∷ (10 + length reps) ∷ 0 ∷ [] ++ reps ++ certificate
+
+oneCertificate : ℕ → List ℕ → ℕ → ℕ → ℕ → ℕ → ℕ → List ℕ
+oneCertificate n reps b z f h L = sheetOf n reps (b ∷ z ∷ f ∷ 0 ∷ h ∷ 0 ∷ L ∷ 0 ∷ []) (18 + length reps) 1
+
+-- "Sheet H: n = 7, representative 1, b 1, z 1, f 3, h 1, L 2."
+sheetH : List ℕ
+sheetH = oneCertificate 7 (1 ∷ []) 1 1 3 1 2
+
+-- the bytes that document 01 gives
+sheetH-bytes : sheetH ≡ 0x13 ∷ 0x00 ∷ 0x07 ∷ 0x01 ∷ 0x0A ∷ 0x00 ∷ 0x01 ∷ 0x00 ∷ 0x0B ∷ 0x00 ∷ 0x01 ∷ 0x01 ∷ 0x01 ∷ 0x03 ∷ 0x00 ∷ 0x01 ∷ 0x00 ∷ 0x02 ∷ 0x00 ∷ []
+unfolding sheetH oneCertificate sheetOf
+sheetH-bytes = refl
+
+-- "Sheet E: n = 7, representatives 0 1, b 0, z 1, f 3, h 1, L 3."
+sheetE : ℕ → List ℕ
+sheetE L = oneCertificate 7 (0 ∷ 1 ∷ []) 0 1 3 1 L
+
+-- "Sheet S: n = 17, representative 1, b 13, z 1, f 7, h 3, L 9 (document 001)."
+sheetS : ℕ → List ℕ
+sheetS L = oneCertificate 17 (1 ∷ []) 13 1 7 3 L
+
+-- "Sheet B: n = 15, representatives 1 3, b 1, z 1, f 3, h 1, L 4."
+sheetB : ℕ → List ℕ
+sheetB L = oneCertificate 15 (1 ∷ 3 ∷ []) 1 1 3 1 L
+
+-- k, d and t of the record, and the generator where it is asked for; or a refusal's number alone
+facts : List ℕ → List ℕ
+facts sheet = pick (judgeOf sheet)
+  where
+    pick : Answer → List ℕ
+    pick a = elim (a .number) [ zero ↦ getD (a .values) 1 0 ∷ getD (a .values) 4 0 ∷ getD (a .values) 5 0 ∷ [] | suc r ↦ suc r ∷ [] ]
+
+-- the word of a message, both as masks
+encodes : List ℕ → ℕ → List ℕ
+encodes sheet message =
+    let n : ℕ = codeLength sheet in
+    let k : ℕ = dimensionOf sheet in
+    let r = encodeOf sheet (bytesOf messageWeight k message) (replicate (bytesFor n) 0) in
+    r .0 .number ∷ maskOf wordWeight n (r .1) ∷ []
+
+-- the answer to a received word: its number, what is returned, and the word written
+decodes : List ℕ → ℕ → List ℕ
+decodes sheet received =
+    let n : ℕ = codeLength sheet in
+    let r = decodeOf sheet (bytesOf wordWeight n received) (replicate (bytesFor n) 0) in
+    r .0 .number ∷ r .0 .values ++ (maskOf wordWeight n (r .1) ∷ [])
+
+said : List (List ℕ)
+said =
+    (generatorOf sheetH ∷ facts sheetH)
+    ∷ encodes sheetH 1
+    ∷ encodes sheetH 2
+    ∷ decodes sheetH 10
+    ∷ decodes sheetH 1
+    ∷ decodes sheetH 127
+    ∷ (generatorOf (sheetE 3) ∷ facts (sheetE 3) ++ facts (sheetE 4))
+    ∷ decodes (sheetE 3) 3
+    ∷ decodes (sheetE 3) 28
+    ∷ facts (sheetS 9)
+    ∷ facts (sheetS 10)
+    ∷ (facts (sheetB 4) ++ facts (sheetB 5))
+    ∷ []
+
+expected : List (List ℕ)
+expected =
+    (11 ∷ 4 ∷ 3 ∷ 1 ∷ [])
+    ∷ (0 ∷ 11 ∷ [])
+    ∷ (0 ∷ 22 ∷ [])
+    ∷ (0 ∷ 1 ∷ 11 ∷ [])
+    ∷ (0 ∷ 1 ∷ 0 ∷ [])
+    ∷ (0 ∷ 0 ∷ 127 ∷ [])
+    ∷ (29 ∷ 3 ∷ 4 ∷ 1 ∷ 10 ∷ [])
+    ∷ (13 ∷ 0 ∷ [])
+    ∷ (0 ∷ 1 ∷ 29 ∷ [])
+    ∷ (9 ∷ 5 ∷ 2 ∷ [])
+    ∷ (10 ∷ [])
+    ∷ (7 ∷ 5 ∷ 2 ∷ 10 ∷ [])
+    ∷ []
+
+cases-hold : said ≡ expected
+unfolding said expected facts encodes decodes sheetH sheetE sheetS sheetB oneCertificate sheetOf definitions
+cases-hold = refl
+
+-- ---- the refusals
+judged : List ℕ → ℕ
+judged sheet = judgeOf sheet .number
+
+decoded : List ℕ → List ℕ → ℕ
+decoded sheet word = decodeOf sheet word (0 ∷ []) .0 .number
+
+readOut : List ℕ → List ℕ → ℕ
+readOut sheet word = readOf sheet word (0 ∷ []) .0 .number
+
+refusals : List ℕ
+refusals =
+    judged (9 ∷ 0 ∷ 7 ∷ 1 ∷ 10 ∷ 0 ∷ 1 ∷ 0 ∷ 11 ∷ [])  -- 9 bytes
+    ∷ judged (oneCertificate 129 (1 ∷ []) 1 1 3 1 2)  -- n = 129
+    ∷ judged (oneCertificate 19 (1 ∷ []) 1 1 3 1 2)  -- n = 19
+    ∷ judged (set sheetH 7 1)  -- byte 7 is 01
+    ∷ judged (oneCertificate 7 (2 ∷ []) 1 1 3 1 2)  -- n = 7, representative 2
+    ∷ judged (oneCertificate 7 (0 ∷ 1 ∷ 3 ∷ []) 1 1 3 1 2)  -- n = 7, representatives 0 1 3
+    ∷ judged (oneCertificate 7 (1 ∷ []) 1 1 3 1 0)  -- L = 0
+    ∷ judged (oneCertificate 7 (1 ∷ []) 1 1 5 3 2)  -- f = 5, h = 3
+    ∷ judged (oneCertificate 21 (1 ∷ []) 1 1 7 1 2)  -- n = 21, f = 7, h = 1
+    ∷ judged (sheetS 10)  -- n = 17, case 11 below
+    ∷ decoded sheetH []  -- empty word
+    ∷ decoded sheetH (0x80 ∷ [])  -- n = 7, word 80
+    ∷ decoded (sheetE 3) (3 ∷ [])  -- case 8 below
+    ∷ readOut sheetH (0x01 ∷ [])  -- n = 7, representative 1, word 01
+    ∷ []
+
+refusals-hold : refusals ≡ 1 ∷ 2 ∷ 3 ∷ 4 ∷ 5 ∷ 6 ∷ 7 ∷ 8 ∷ 9 ∷ 10 ∷ 11 ∷ 12 ∷ 13 ∷ 14 ∷ []
+unfolding refusals judged decoded readOut sheetH sheetE sheetS oneCertificate sheetOf definitions
+refusals-hold = refl
+
+-- ---- near misses: rows that definitions a step away would get wrong
+twoCertificates : ℕ → List ℕ → List ℕ → List ℕ → List ℕ
+twoCertificates n reps c d = sheetOf n reps (c ++ d) (26 + length reps) 2
+
+certificateOf : ℕ → ℕ → ℕ → ℕ → ℕ → ℕ → List ℕ
+certificateOf b z f high h L = b ∷ z ∷ f ∷ high ∷ h ∷ 0 ∷ L ∷ 0 ∷ []
+
+record-of : List ℕ → List ℕ
+record-of sheet = let a : Answer = judgeOf sheet in a .number ∷ a .values
+
+answered : Answer × List ℕ → List ℕ
+answered r = r .0 .number ∷ r .0 .values ++ r .1
+
+near : List (List ℕ)
+near =
+    record-of (oneCertificate 7 (1 ∷ []) 0 1 3 1 2)  -- 0 is not in D, the last term is
+    ∷ record-of (oneCertificate 7 (1 ∷ []) 1 2 3 1 2)  -- 1, 3: the step counts
+    ∷ record-of (oneCertificate 7 (1 ∷ []) 1 3 3 1 2)  -- 1, 4
+    ∷ record-of (twoCertificates 7 (1 ∷ []) (certificateOf 1 1 3 0 1 2) (certificateOf 1 1 3 0 1 2))  -- the first of two equal
+    ∷ record-of (twoCertificates 7 (0 ∷ 1 ∷ []) (certificateOf 0 1 3 0 1 2) (certificateOf 0 1 3 0 1 3))  -- d 3 and 4, one t: the first
+    ∷ record-of (twoCertificates 15 (1 ∷ 3 ∷ []) (certificateOf 1 1 3 0 1 2) (certificateOf 1 1 3 0 1 4))  -- the larger t
+    ∷ record-of (twoCertificates 7 (1 ∷ []) (certificateOf 1 1 3 0 1 2) (certificateOf 1 1 3 0 1 3))  -- the second is refused
+    ∷ record-of (twoCertificates 7 (1 ∷ []) (certificateOf 1 1 3 0 1 3) (certificateOf 1 0 3 0 1 2))  -- 10 of the first before 7 of the second
+    ∷ record-of (oneCertificate 7 (0 ∷ 1 ∷ []) 0 1 31 8 1)  -- L is not above v: d is 1
+    ∷ record-of (oneCertificate 15 (1 ∷ []) 1 3 3 1 1)  -- z and n have a common factor
+    ∷ record-of (oneCertificate 7 (1 ∷ 0 ∷ []) 1 1 3 1 2)  -- representatives falling
+    ∷ record-of (sheetOf 7 (1 ∷ []) (certificateOf 1 1 3 2 1 2) 19 1)  -- f = 515 has degree 9
+    ∷ record-of (oneCertificate 7 (1 ∷ []) 1 1 6 1 2)  -- f has no constant term
+    ∷ record-of (oneCertificate 15 (1 ∷ []) 1 1 19 1 1)  -- the period of f is 15
+    ∷ record-of (sheetOf 7 [] (certificateOf 0 1 7 0 2 1) 18 1)  -- R = 0
+    ∷ answered (readOf sheetH (11 ∷ []) (0xAA ∷ []))  -- a codeword is read
+    ∷ answered (readOf sheetH (10 ∷ []) (0xAA ∷ []))  -- a refusal leaves the lent byte
+    ∷ answered (decodeOf sheetH (10 ∷ []) (0xAA ∷ 0xBB ∷ []))  -- the output's length counts
+    ∷ answered (decodeOf sheetH (0x8A ∷ []) (0xAA ∷ 0xBB ∷ []))  -- and before spare bits
+    ∷ answered (decodeOf sheetH (0x8A ∷ []) (0xAA ∷ []))  -- a spare bit of the input
+    ∷ answered (decodeOf sheetH (10 ∷ []) (0xAA ∷ []))  -- one of the output is no matter
+    ∷ answered (encodeOf sheetH (0x12 ∷ []) (0xAA ∷ []))  -- a spare bit of a message
+    ∷ answered (encodeOf (oneCertificate 9 (0 ∷ []) 0 1 3 1 1) (1 ∷ []) (0xAA ∷ 0xBB ∷ []))  -- k = 8 takes one byte, n = 9 two
+    ∷ []
+
+near-hold : near
+    ≡ (10 ∷ [])
+    ∷ (10 ∷ [])
+    ∷ (0 ∷ 7 ∷ 4 ∷ 3 ∷ 0 ∷ 3 ∷ 1 ∷ 2 ∷ [])
+    ∷ (0 ∷ 7 ∷ 4 ∷ 3 ∷ 0 ∷ 3 ∷ 1 ∷ 2 ∷ [])
+    ∷ (0 ∷ 7 ∷ 3 ∷ 3 ∷ 0 ∷ 3 ∷ 1 ∷ 2 ∷ [])
+    ∷ (0 ∷ 15 ∷ 7 ∷ 4 ∷ 1 ∷ 5 ∷ 2 ∷ 4 ∷ [])
+    ∷ (10 ∷ [])
+    ∷ (10 ∷ [])
+    ∷ (0 ∷ 7 ∷ 3 ∷ 3 ∷ 0 ∷ 1 ∷ 0 ∷ 1 ∷ [])
+    ∷ (7 ∷ [])
+    ∷ (5 ∷ [])
+    ∷ (7 ∷ [])
+    ∷ (7 ∷ [])
+    ∷ (9 ∷ [])
+    ∷ (0 ∷ 7 ∷ 7 ∷ 3 ∷ 0 ∷ 1 ∷ 0 ∷ 1 ∷ [])
+    ∷ (0 ∷ 0 ∷ 1 ∷ [])
+    ∷ (14 ∷ 0xAA ∷ [])
+    ∷ (11 ∷ 0xAA ∷ 0xBB ∷ [])
+    ∷ (11 ∷ 0xAA ∷ 0xBB ∷ [])
+    ∷ (12 ∷ 0xAA ∷ [])
+    ∷ (0 ∷ 1 ∷ 11 ∷ [])
+    ∷ (12 ∷ 0xAA ∷ [])
+    ∷ (0 ∷ 0 ∷ 3 ∷ 0 ∷ [])
+    ∷ []
+unfolding near record-of answered twoCertificates certificateOf sheetH oneCertificate sheetOf definitions
+near-hold = refl
+
+-- ---- the listing
+-- code 7 4 3, zeros 1 2 4, generator 1101, cert 0 terms 2 distance 3, radius 1 from cert 0
+listing-holds : listing sheetH
+    ≡ 99 ∷ 111 ∷ 100 ∷ 101 ∷ 32 ∷ 55 ∷ 32 ∷ 52 ∷ 32 ∷ 51 ∷ 10
+    ∷ 122 ∷ 101 ∷ 114 ∷ 111 ∷ 115 ∷ 32 ∷ 49 ∷ 32 ∷ 50 ∷ 32 ∷ 52 ∷ 10
+    ∷ 103 ∷ 101 ∷ 110 ∷ 101 ∷ 114 ∷ 97 ∷ 116 ∷ 111 ∷ 114 ∷ 32 ∷ 49 ∷ 49 ∷ 48 ∷ 49 ∷ 10
+    ∷ 99 ∷ 101 ∷ 114 ∷ 116 ∷ 32 ∷ 48 ∷ 32 ∷ 116 ∷ 101 ∷ 114 ∷ 109 ∷ 115 ∷ 32 ∷ 50 ∷ 32 ∷ 100 ∷ 105 ∷ 115 ∷ 116 ∷ 97 ∷ 110 ∷ 99 ∷ 101 ∷ 32 ∷ 51 ∷ 10
+    ∷ 114 ∷ 97 ∷ 100 ∷ 105 ∷ 117 ∷ 115 ∷ 32 ∷ 49 ∷ 32 ∷ 102 ∷ 114 ∷ 111 ∷ 109 ∷ 32 ∷ 99 ∷ 101 ∷ 114 ∷ 116 ∷ 32 ∷ 48 ∷ 10 ∷ []
+unfolding listing listingFor acceptedLines codeLine zerosLine generatorLine certificateLine radiusLine refusedLine decimal decimalIn sheetH oneCertificate sheetOf definitions
+listing-holds = refl

@@ -1,0 +1,130 @@
+-- The chain of conditions, and the working certificate, one certificate more at a time.
+--
+--   Quiet, first-quiet, quiet-append, first-keep      the first of two lists of conditions
+--   flat-suc, four-quiet, flat-stop      the conditions of the certificates in turn
+--   working-is, First, first-one, first-new, first-same      the working certificate among one more
+use mathlib.Core.Path.{_≡_, refl, sym, ap, ap₂, _∙_, subst}
+use mathlib.Core.Logic.{_≢_}
+use mathlib.Core.Bool.{Bool, true, false}
+use mathlib.Core.List.{List, [], _∷_, _++_, flatMap, append-assoc, append-nil}
+use Prim.Native.Nat.{ℕ, zero, suc, _+_, _-_, _*_, _/_, _≤_, _<_}
+use native.Mathlib.Decide.{ℕ-discrete, decLt}
+use native.Mathlib.Numerals.{add-one}
+use native.Mathlib.Omega.{arith}
+use lib.Dec.{leb, ltb}
+use borrow.Author.Tests.{le-leb, lt-leb, lt-ltb, le-ltb, leb-true}
+use Rattle.field.specs.Search.{least, upTo, every}
+use Rattle.field.proofs.Search.{Least, least-is, least-unique, every-of, every-at, upTo-suc}
+use Rattle.poly.proofs.Coprime.{every-not}
+use Rattle.document.specs.Answer.{Answer, returned, refused, numberOf, Conditions, firstOf, settle}
+use Rattle.document.specs.Sheet.{codeLength, representatives, representativeCount, certificateCount, Certificate, certificate}
+use Rattle.document.specs.Certificate.{distance, radius, working}
+use Rattle.document.specs.Judge.{certificateConditions, workingOf, workingCertificate}
+use Rattle.document.proofs.Sane.{passed, settle-number, distance-pos}
+
+-- ---- conditions
+pub data Quiet : Conditions → Type 0 where
+  silent : Quiet []
+  passing : {c : ℕ × Bool} {l : Conditions} → c .1 ≡ false → Quiet l → Quiet (c ∷ l)
+
+first-true : (c : ℕ × Bool) (l : Conditions) → c .1 ≡ true → firstOf (c ∷ l) ≡ c .0
+unfolding firstOf
+first-true c l e = rw (firstOf, e)
+
+first-false : (c : ℕ × Bool) (l : Conditions) → c .1 ≡ false → firstOf (c ∷ l) ≡ firstOf l
+unfolding firstOf
+first-false c l e = rw (firstOf, e)
+
+pub first-quiet : {a : Conditions} (b : Conditions) → Quiet a → firstOf (a ++ b) ≡ firstOf b
+first-quiet b silent = refl
+first-quiet b (passing {c = c} {l = l} e q) = first-false c (l ++ b) e ∙ first-quiet b q
+
+pub quiet-append : {a b : Conditions} → Quiet a → Quiet b → Quiet (a ++ b)
+quiet-append silent r = r
+quiet-append (passing e q) r = passing e (quiet-append q r)
+
+pub first-keep : (a b : Conditions) (r : ℕ) → firstOf a ≡ suc r → firstOf (a ++ b) ≡ suc r
+unfolding firstOf
+first-keep [] b r e = absurd (omega arith)
+first-keep (c ∷ a) b r e = go (c .1) refl (first-keep a b r)
+  where
+    go : (x : Bool) → c .1 ≡ x → (firstOf a ≡ suc r → firstOf (a ++ b) ≡ suc r) → firstOf (c ∷ (a ++ b)) ≡ suc r
+    go true q ih = first-true c (a ++ b) q ∙ sym (first-true c a q) ∙ e
+    go false q ih = first-false c (a ++ b) q ∙ ih (sym (first-false c a q) ∙ e)
+
+-- ---- the certificates in turn
+abbrev pub flat : List ℕ → ℕ → Conditions
+flat sheet i = flatMap (certificateConditions sheet) (upTo i)
+
+flat-last : (f : ℕ → Conditions) (l : List ℕ) (x : ℕ) → flatMap f (l ++ (x ∷ [])) ≡ flatMap f l ++ f x
+unfolding flatMap
+flat-last f [] x = append-nil (f x)
+flat-last f (y ∷ l) x = ap (λ m. f y ++ m) (flat-last f l x) ∙ sym (append-assoc (f y) (flatMap f l) (f x))
+
+pub flat-suc : (sheet : List ℕ) (i : ℕ) → flat sheet (suc i) ≡ flat sheet i ++ certificateConditions sheet i
+flat-suc sheet i =
+    ap (flatMap (certificateConditions sheet)) (upTo-suc i) ∙ flat-last (certificateConditions sheet) (upTo i) i
+
+pub four-quiet : (sheet : List ℕ) (i : ℕ) → firstOf (certificateConditions sheet i) ≡ 0 → Quiet (certificateConditions sheet i)
+unfolding certificateConditions
+four-quiet sheet i e =
+    let p₁ = passed 6 _ _ e in
+    let p₂ = passed 7 _ _ (p₁ .1) in
+    let p₃ = passed 8 _ _ (p₂ .1) in
+    let p₄ = passed 9 _ _ (p₃ .1) in
+    passing (p₁ .0) (passing (p₂ .0) (passing (p₃ .0) (passing (p₄ .0) silent)))
+
+pub flat-stop : (sheet : List ℕ) (i r k : ℕ) → Quiet (flat sheet i) → firstOf (certificateConditions sheet i) ≡ suc r
+    → firstOf (flat sheet (suc i + k)) ≡ suc r
+flat-stop sheet i r zero q e =
+    let z : suc i + 0 ≡ suc i = omega arith in
+    ap (λ (x : ℕ). firstOf (flat sheet x)) z ∙ ap firstOf (flat-suc sheet i) ∙ first-quiet (certificateConditions sheet i) q ∙ e
+flat-stop sheet i r (suc k) q e =
+    let z : suc i + suc k ≡ suc (suc i + k) = omega arith in
+    ap (λ (x : ℕ). firstOf (flat sheet x)) z ∙ ap firstOf (flat-suc sheet (suc i + k))
+    ∙ first-keep (flat sheet (suc i + k)) (certificateConditions sheet (suc i + k)) r (flat-stop sheet i r k q e)
+
+-- ---- the working certificate
+module _ (t : ℕ → ℕ) where
+  pub working-is : (n w : ℕ) → w < n → ((e : ℕ) → e < n → t e ≤ t w) → ((c : ℕ) → c < w → t c < t w) → working n t ≡ w
+  unfolding working
+  working-is n w h all fresh =
+      least-unique (least-is (λ c. every (λ e. leb (t e) (t c)) (upTo n)) n)
+      (record {
+        le = omega arith;
+        before = λ c l. every-not (λ e. leb (t e) (t c)) n w h (lt-leb (t w) (t c) (fresh c l));
+        passes = λ l. every-of (λ e. leb (t e) (t w)) n (λ e m. le-leb (t e) (t w) (all e m));
+      })
+
+-- i certificates checked: w is the first of the largest t among them
+pub record First (t : ℕ → ℕ) (i w : ℕ) : Type 0 where
+  pub below : w < i
+  pub most : (e : ℕ) → e < i → t e ≤ t w
+  pub fresh : (c : ℕ) → c < w → t c < t w
+
+pub first-one : (t : ℕ → ℕ) → First t 1 0
+first-one t = record {
+  below = omega arith;
+  most = λ e h. let z : e ≡ 0 = omega arith in subst (λ (x : ℕ). t x ≤ t 0) (sym z) (omega arith);
+  fresh = λ c h. absurd (omega arith);
+}
+
+pub first-new : {t : ℕ → ℕ} {i w : ℕ} → First t i w → t w < t i → First t (i + 1) i
+first-new {t} {i} {w} f h = record {
+  below = omega arith;
+  most = λ e l. elim (ℕ-discrete e i) [
+    | yes q ↦ subst (λ (x : ℕ). t x ≤ t i) (sym q) (omega arith)
+    | no q ↦ omega (arith, f .most e (omega arith))
+  ];
+  fresh = λ c l. omega (arith, f .most c l);
+}
+
+pub first-same : {t : ℕ → ℕ} {i w : ℕ} → First t i w → t i ≤ t w → First t (i + 1) w
+first-same {t} {i} {w} f h = record {
+  below = omega (arith, f .below);
+  most = λ e l. elim (ℕ-discrete e i) [
+    | yes q ↦ subst (λ (x : ℕ). t x ≤ t w) (sym q) h
+    | no q ↦ f .most e (omega arith)
+  ];
+  fresh = f .fresh;
+}

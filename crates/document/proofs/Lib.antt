@@ -1,0 +1,9 @@
+-- Laws of the definitions, and the proved tables.
+pub mod Cases
+pub mod Sane
+pub mod Cosets
+pub mod Chain
+pub mod Acceptance
+pub mod Theory
+pub mod GeneratorIs
+pub mod Demand2

@@ -1,0 +1,168 @@
+-- Laws that a wrong definition would break.
+--
+--   distance-pos        a distance is at least 1
+--   radius-most         the t of every certificate on the sheet is at most the sheet's t
+--   (that D is closed under doubling is set-doubles of Cosets.antt)
+--   set-size            D has n - k members
+--   poly-length, poly-top      the generator has degree n - k: n - k + 1 coefficients, the highest of them 1
+--   empty-dimension, empty-generator      a sheet with R = 0 has k = n and generator 1
+--   accepted-dimension  an accepted sheet has 1 ≤ k
+use mathlib.Core.Path.{_≡_, refl, sym, ap, ap₂, _∙_, subst}
+use mathlib.Core.Logic.{_≢_}
+use mathlib.Core.Bool.{Bool, true, false, _||_}
+use mathlib.Core.List.{List, [], _∷_, _++_, map}
+use Prim.Native.Nat.{ℕ, zero, suc, _+_, _-_, _*_, _/_, _%_, _^_, _≤_, _<_}
+use native.Mathlib.Nat.{sub-zero}
+use native.Mathlib.Decide.{decLt, ℕ-discrete}
+use native.Mathlib.Omega.{arith}
+use lib.Dec.{eqb, leb}
+use lib.ListN.{length, getD, take, drop, length-map, List·getD-eq-default}
+use borrow.Author.Tests.{eqb-false, leb-true, le-leb}
+use Rattle.field.specs.Search.{least, upTo, keep, some, every, total}
+use Rattle.field.specs.Mask.{_⊕_}
+use Rattle.field.specs.Field.{fieldMultiply, fieldPower, orderOfTwo, α}
+use Rattle.field.proofs.Search.{Least, least-is, least-most, keep-none, every-at, every-of}
+use Rattle.field.proofs.Search.{length-upTo, length-keep}
+use Rattle.field.proofs.Xor.{⊕-zero-r, ⊕-zero-l}
+use Rattle.document.specs.Answer.{Conditions, firstOf, settle}
+use Rattle.document.specs.Sheet.{codeLength, representativeCount, representatives, certificateCount, Certificate, certificate}
+use Rattle.document.specs.Coset.{inSet, definingSet, dimension}
+use Rattle.document.specs.Generator.{addPoly, timesRoot, rootProduct, generatorPoly, maskOfPoly, generator}
+use Rattle.document.specs.Certificate.{distance, radius, working}
+use Rattle.document.specs.Judge.{sheetConditions, judgeConditions, dimensionOf, workingOf, workingCertificate, judgeOf}
+use Rattle.document.specs.Judge.{wrongLength, wrongCodeLength, wrongDegree, wrongHeader, wrongRepresentative, noMessage}
+use Rattle.document.specs.Entry.{generatorOf}
+
+pub distance-pos : (c : Certificate) → 1 ≤ distance c
+unfolding distance
+distance-pos c = omega arith
+
+-- ---- the working certificate
+upto-last : (t : ℕ → ℕ) (n i : ℕ) → t n ≤ t i → ((j : ℕ) → j < n → t j ≤ t i) → (j : ℕ) → j < suc n → t j ≤ t i
+upto-last t n i top rest j h = elim (ℕ-discrete j n) [
+  | yes e ↦ subst (λ (x : ℕ). t x ≤ t i) (sym e) top
+  | no e ↦ rest j (omega arith)
+]
+
+-- of some numbers one is largest
+largest : (t : ℕ → ℕ) (n : ℕ) → (i : ℕ) × (i < suc n) × ((j : ℕ) → j < suc n → t j ≤ t i)
+largest t zero = (0, omega arith, upto-last t 0 0 (omega arith) (λ j h. absurd (omega arith)))
+largest t (suc n) =
+    let r = largest t n in
+    elim (decLt (t (r .0)) (t (suc n))) [
+      | yes l ↦ (suc n, omega arith, upto-last t (suc n) (suc n) (omega arith) (λ j h. omega (arith, r .2 j h)))
+      | no l ↦ (r .0, omega (arith, r .1), upto-last t (suc n) (r .0) (omega arith) (r .2))
+    ]
+
+pub working-most : (count : ℕ) (t : ℕ → ℕ) (c : ℕ) → c < count → (working count t < count) × (t c ≤ t (working count t))
+unfolding working
+working-most zero t c h = absurd (omega arith)
+working-most (suc n) t c h =
+    let test : ℕ → Bool = λ c. every (λ e. leb (t e) (t c)) (upTo (suc n)) in
+    let r = largest t n in
+    let m : least test (suc n) ≤ r .0 =
+    least-most test (suc n) (r .0) (every-of (λ e. leb (t e) (t (r .0))) (suc n) (λ k l. le-leb (t k) (t (r .0)) (r .2 k l))) in
+    let w : least test (suc n) < suc n = omega (arith, r .1) in (
+      w,
+      leb-true (t c) (t (least test (suc n)))
+          (every-at (λ e. leb (t e) (t (least test (suc n)))) (suc n) (least-is test (suc n) .passes w) c h),
+    )
+
+pub radius-most : (sheet : List ℕ) (c : ℕ) → c < certificateCount sheet
+    → radius (certificate sheet c) ≤ radius (workingCertificate sheet)
+unfolding workingCertificate workingOf
+radius-most sheet c h = working-most (certificateCount sheet) (λ c. radius (certificate sheet c)) c h .1
+
+-- ---- the generator
+pub add-at : (p q : List ℕ) (i : ℕ) → getD (addPoly p q) i 0 ≡ getD p i 0 ⊕ getD q i 0
+unfolding addPoly
+add-at [] q i = sym (⊕-zero-l (getD q i 0))
+add-at (a ∷ p) [] i = sym (⊕-zero-r (getD (a ∷ p) i 0))
+add-at (a ∷ p) (b ∷ q) zero = refl
+add-at (a ∷ p) (b ∷ q) (suc i) = add-at p q i
+
+pub add-length : (p q : List ℕ) → length q ≤ length p → length (addPoly p q) ≡ length p
+unfolding addPoly
+add-length [] [] h = refl
+add-length [] (b ∷ q) h = absurd (omega arith)
+add-length (a ∷ p) [] h = refl
+add-length (a ∷ p) (b ∷ q) h = ap suc (add-length p q (omega arith))
+
+pub product-length : (s a : ℕ) (l : List ℕ) → length (rootProduct s a l) ≡ suc (length l)
+unfolding rootProduct timesRoot
+product-length s a [] = refl
+product-length s a (i ∷ l) =
+    let p : List ℕ = rootProduct s a l in
+    add-length (0 ∷ p) (map (fieldMultiply s (fieldPower s a i)) p)
+    (omega (arith, length-map p (fieldMultiply s (fieldPower s a i))))
+    ∙ ap suc (product-length s a l)
+
+pub product-top : (s a : ℕ) (l : List ℕ) → getD (rootProduct s a l) (length l) 0 ≡ 1
+unfolding rootProduct timesRoot
+product-top s a [] = refl
+product-top s a (i ∷ l) =
+    let p : List ℕ = rootProduct s a l in
+    let q : List ℕ = map (fieldMultiply s (fieldPower s a i)) p in
+    add-at (0 ∷ p) q (suc (length l))
+    ∙ ap₂ _⊕_ (product-top s a l)
+    (List·getD-eq-default q 0 (omega (arith, length-map p (fieldMultiply s (fieldPower s a i)), product-length s a l)))
+    ∙ ⊕-zero-r 1
+
+pub set-size : (n : ℕ) (reps : List ℕ) → n - dimension n reps ≡ length (definingSet n reps)
+unfolding dimension definingSet
+set-size n reps = omega (arith, length-keep (inSet n reps) (upTo n), length-upTo n)
+
+pub poly-length : (n : ℕ) (reps : List ℕ) → length (generatorPoly n reps) ≡ suc (n - dimension n reps)
+unfolding generatorPoly
+poly-length n reps =
+    product-length (orderOfTwo n) (α (orderOfTwo n) n) (definingSet n reps) ∙ ap suc (sym (set-size n reps))
+
+pub poly-top : (n : ℕ) (reps : List ℕ) → getD (generatorPoly n reps) (n - dimension n reps) 0 ≡ 1
+unfolding generatorPoly
+poly-top n reps =
+    ap (λ (x : ℕ). getD (generatorPoly n reps) x 0) (set-size n reps)
+    ∙ product-top (orderOfTwo n) (α (orderOfTwo n) n) (definingSet n reps)
+
+-- ---- no representatives
+empty-set : (n : ℕ) → definingSet n [] ≡ []
+unfolding definingSet inSet some
+empty-set n = keep-none (inSet n []) n (λ k h. refl)
+
+none : (sheet : List ℕ) → representativeCount sheet ≡ 0 → representatives sheet ≡ []
+unfolding representatives
+none sheet e = ap (λ (r : ℕ). take r (drop 10 sheet)) e
+
+pub empty-dimension : (sheet : List ℕ) → representativeCount sheet ≡ 0 → dimensionOf sheet ≡ codeLength sheet
+unfolding dimensionOf dimension
+empty-dimension sheet e =
+    ap (dimension (codeLength sheet)) (none sheet e) ∙ ap (λ l. codeLength sheet - length l) (empty-set (codeLength sheet))
+    ∙ sub-zero (codeLength sheet)
+
+pub empty-generator : (sheet : List ℕ) → representativeCount sheet ≡ 0 → generatorOf sheet ≡ 1
+unfolding generatorOf generator generatorPoly rootProduct maskOfPoly total
+empty-generator sheet e =
+    let n : ℕ = codeLength sheet in
+    ap (generator n) (none sheet e) ∙ ap (λ l. maskOfPoly (rootProduct (orderOfTwo n) (α (orderOfTwo n) n) l)) (empty-set n)
+
+-- ---- accepted sheets
+pub passed : (r : ℕ) (b : Bool) (rest : Conditions) → firstOf ((suc r, b) ∷ rest) ≡ 0 → (b ≡ false) × (firstOf rest ≡ 0)
+unfolding firstOf
+passed r true rest e = absurd (omega arith)
+passed r false rest e = (refl, e)
+
+pub settle-number : (r : ℕ) (v w o : List ℕ) → settle r v w o .0 .number ≡ r
+unfolding settle
+settle-number zero v w o = refl
+settle-number (suc r) v w o = refl
+
+pub accepted-dimension : (sheet : List ℕ) → judgeOf sheet .number ≡ 0 → 1 ≤ dimensionOf sheet
+unfolding judgeOf judgeConditions sheetConditions noMessage
+accepted-dimension sheet e =
+    let p₁ = passed 0 (wrongLength sheet) _ (sym (settle-number _ _ _ _) ∙ e) in
+    let p₂ = passed 1 (wrongCodeLength sheet) _ (p₁ .1) in
+    let p₃ = passed 2 (wrongDegree sheet) _ (p₂ .1) in
+    let p₄ = passed 3 (wrongHeader sheet) _ (p₃ .1) in
+    let p₅ = passed 4 (wrongRepresentative sheet) _ (p₄ .1) in
+    let p₆ = passed 5 (noMessage sheet) _ (p₅ .1) in
+    let n : dimensionOf sheet ≢ 0 = eqb-false (dimensionOf sheet) 0 (p₆ .0) in
+    omega arith

@@ -1,0 +1,83 @@
+-- The listing that `linkcard` writes, byte by byte (ASCII).
+--
+--   decimal n           a number in decimal digits
+--   codeLine .. radiusLine, refusedLine      the lines
+--   listing sheet       the text
+--   cardOf sheet out    the listing's length, and what a lent buffer that holds it is afterwards
+use mathlib.Core.List.{List, [], _∷_, _++_, map, flatMap}
+use Prim.Native.Nat.{ℕ, zero, suc, _+_, _/_, _%_}
+use lib.Dec.{ltb}
+use mathlib.Core.Bool.{true, false}
+use lib.ListN.{length, drop}
+use Rattle.field.specs.Search.{upTo}
+use Rattle.field.specs.Field.{orderOfTwo}
+use Rattle.document.specs.Answer.{Answer, returned, firstOf}
+use Rattle.document.specs.Sheet.{codeLength, representatives, certificateCount, certificate}
+use Rattle.document.specs.Coset.{definingSet}
+use Rattle.document.specs.Generator.{generatorPoly}
+use Rattle.document.specs.Certificate.{distance, radius}
+use Rattle.document.specs.Judge.{judgeConditions, dimensionOf, workingOf, workingCertificate}
+
+-- a number below 10^n
+unfoldable pub decimalIn : ℕ → ℕ → List ℕ
+decimalIn zero x = []
+decimalIn (suc n) x = elim (ltb x 10) [ true ↦ (48 + x) ∷ [] | false ↦ decimalIn n (x / 10) ++ ((48 + x % 10) ∷ []) ]
+
+unfoldable pub decimal : ℕ → List ℕ
+decimal x = decimalIn (suc x) x
+
+-- one space, and a number
+abbrev pub spaced : ℕ → List ℕ
+spaced x = 32 ∷ decimal x
+
+abbrev pub newline : List ℕ
+newline = 10 ∷ []
+
+-- "code", n, k, s
+unfoldable pub codeLine : List ℕ → List ℕ
+codeLine sheet =
+    (99 ∷ 111 ∷ 100 ∷ 101 ∷ []) ++ spaced (codeLength sheet) ++ spaced (dimensionOf sheet) ++ spaced (orderOfTwo (codeLength sheet)) ++ newline
+
+-- "zeros", D rising ("nothing after `zeros` if it is empty")
+unfoldable pub zerosLine : List ℕ → List ℕ
+zerosLine sheet =
+    (122 ∷ 101 ∷ 114 ∷ 111 ∷ 115 ∷ []) ++ flatMap spaced (definingSet (codeLength sheet) (representatives sheet)) ++ newline
+
+-- "generator", and after one space "the generator from x^0 up"
+unfoldable pub generatorLine : List ℕ → List ℕ
+generatorLine sheet =
+    (103 ∷ 101 ∷ 110 ∷ 101 ∷ 114 ∷ 97 ∷ 116 ∷ 111 ∷ 114 ∷ 32 ∷ [])
+    ++ map (λ c. 48 + c) (generatorPoly (codeLength sheet) (representatives sheet)) ++ newline
+
+-- "cert", index, "terms", L, "distance", d
+unfoldable pub certificateLine : List ℕ → ℕ → List ℕ
+certificateLine sheet c =
+    (99 ∷ 101 ∷ 114 ∷ 116 ∷ []) ++ spaced c
+    ++ (32 ∷ 116 ∷ 101 ∷ 114 ∷ 109 ∷ 115 ∷ []) ++ spaced (certificate sheet c .L)
+    ++ (32 ∷ 100 ∷ 105 ∷ 115 ∷ 116 ∷ 97 ∷ 110 ∷ 99 ∷ 101 ∷ []) ++ spaced (distance (certificate sheet c)) ++ newline
+
+-- "radius", t, "from cert", the working index
+unfoldable pub radiusLine : List ℕ → List ℕ
+radiusLine sheet =
+    (114 ∷ 97 ∷ 100 ∷ 105 ∷ 117 ∷ 115 ∷ []) ++ spaced (radius (workingCertificate sheet))
+    ++ (32 ∷ 102 ∷ 114 ∷ 111 ∷ 109 ∷ 32 ∷ 99 ∷ 101 ∷ 114 ∷ 116 ∷ []) ++ spaced (workingOf sheet) ++ newline
+
+-- "A refused sheet gives only one line: `refused`, one space and its number."
+unfoldable pub refusedLine : ℕ → List ℕ
+refusedLine r = (114 ∷ 101 ∷ 102 ∷ 117 ∷ 115 ∷ 101 ∷ 100 ∷ []) ++ spaced r ++ newline
+
+unfoldable pub acceptedLines : List ℕ → List ℕ
+acceptedLines sheet =
+    codeLine sheet ++ zerosLine sheet ++ generatorLine sheet
+    ++ flatMap (certificateLine sheet) (upTo (certificateCount sheet)) ++ radiusLine sheet
+
+unfoldable pub listingFor : ℕ → List ℕ → List ℕ
+listingFor zero sheet = acceptedLines sheet
+listingFor (suc r) sheet = refusedLine (suc r)
+
+unfoldable pub listing : List ℕ → List ℕ
+listing sheet = listingFor (firstOf (judgeConditions sheet)) sheet
+
+-- The listing, and what stood after its end. The lent buffer has 1,024 bytes, more than any listing takes.
+unfoldable pub cardOf : List ℕ → List ℕ → Answer × List ℕ
+cardOf sheet out = (returned (length (listing sheet) ∷ []), listing sheet ++ drop (length (listing sheet)) out)

@@ -1,0 +1,9 @@
+pub mod Answer
+pub mod Layout
+pub mod Sheet
+pub mod Coset
+pub mod Generator
+pub mod Certificate
+pub mod Judge
+pub mod Entry
+pub mod Card

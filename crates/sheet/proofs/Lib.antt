@@ -1,0 +1,7 @@
+-- Why each condition of a sheet is what the code finds.
+pub mod Header
+pub mod Marking
+pub mod Listed
+pub mod Ranges
+pub mod Terms
+pub mod Checks

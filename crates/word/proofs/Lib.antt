@@ -1,0 +1,6 @@
+-- Bits in bytes, and products of polynomials.
+pub mod Digits
+pub mod Places
+pub mod PlaceLoops
+pub mod TimesRoot
+pub mod CosetFactor

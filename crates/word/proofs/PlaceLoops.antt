@@ -1,0 +1,82 @@
+-- Loops over places.
+--
+--   Passed w n end i l     no place from n to i is 1: passed-start, passed-index, passed-more; its exits passed-one, passed-end
+--   Filled w mask i l      the first i places are those of the mask: filled-start, filled-more, filled-end
+use mathlib.Core.Path.{_≡_, refl, sym, ap, _∙_}
+use mathlib.Core.Logic.{_≢_}
+use mathlib.Core.Bool.{true, false}
+use mathlib.Core.List.{List}
+use Prim.Native.Nat.{ℕ, _+_, _*_, _/_, _≤_, _<_}
+use native.Mathlib.Decide.{ℕ-discrete}
+use native.Mathlib.Omega.{arith}
+use lib.ListN.{length, getD}
+use Rattle.field.specs.Mask.{coefficient}
+use Rattle.document.specs.Layout.{bytesFor, place, bytesOf, spare}
+use Rattle.word.specs.Place.{Put}
+use Rattle.word.proofs.Places.{Weights, place-lt, for-le, spare-one, spare-clear, bytes-same}
+
+-- ---- spare places
+pub record Passed (w : ℕ → ℕ) (n end i : ℕ) (l : List ℕ) : Type 0 where
+  pub long : end ≡ bytesFor n * 8
+  pub end-is : end ≡ length l * 8
+  pub few : end ≤ 65536
+  pub least : n ≤ i
+  pub most : i ≤ end
+  pub clear : (j : ℕ) → n ≤ j → j < i → place w l j ≡ 0
+
+pub for-few : {n : ℕ} → n ≤ 65535 → bytesFor n ≤ 8192
+unfolding bytesFor
+for-few h = omega arith
+
+pub passed-start : {w : ℕ → ℕ} {n : ℕ} {l : List ℕ} → length l ≡ bytesFor n → n ≤ 65535 → Passed w n (length l * 8) n l
+passed-start {n = n} h k = record {
+  long = omega arith;
+  end-is = refl;
+  few = omega (arith, for-few k);
+  least = omega arith;
+  most = omega (arith, for-le n);
+  clear = λ j a b. absurd (omega arith);
+}
+
+module _ {w : ℕ → ℕ} {n end i : ℕ} {l : List ℕ} (v : Passed w n end i l) where
+  pub passed-index : i < end → i / 8 < length l
+  passed-index h = omega (arith, v .end-is)
+
+  pub passed-one : {r : ℕ} → i < end → r ≡ place w l i → r ≡ 1 → true ≡ spare w n l
+  passed-one h e o = sym (spare-one w n l i (v .least) (omega (arith, v .long)) (sym e ∙ o))
+
+  pub passed-more : {r : ℕ} → i < end → r ≡ place w l i → r ≢ 1 → Passed w n end (i + 1) l
+  passed-more {r} h e o = record {
+    long = v .long;
+    end-is = v .end-is;
+    few = v .few;
+    least = omega (arith, v .least);
+    most = omega arith;
+    clear = λ j a b. elim (ℕ-discrete j i) [
+      | yes q ↦ (let s : place w l i < 2 = place-lt w l i in ap (place w l) q ∙ omega arith)
+      | no q ↦ v .clear j a (omega arith)
+    ];
+  }
+
+  pub passed-end : end ≤ i → false ≡ spare w n l
+  passed-end h = sym (spare-clear w n l (λ j a b. v .clear j a (omega (arith, v .long))))
+
+-- ---- places set one by one, spare ones too
+pub record Filled (w : ℕ → ℕ) (mask i : ℕ) (l : List ℕ) : Type 0 where
+  pub done : (j : ℕ) → j < i → place w l j ≡ coefficient j mask
+
+pub filled-start : {w : ℕ → ℕ} {mask : ℕ} {l : List ℕ} → Filled w mask 0 l
+filled-start = record { done = λ j h. absurd (omega arith) }
+
+pub filled-more : {w : ℕ → ℕ} {mask i bit : ℕ} {l m : List ℕ} → Filled w mask i l → bit ≡ coefficient i mask → Put w i bit l m
+    → Filled w mask (i + 1) m
+filled-more {w} {mask} {i} {bit} {l} {m} v e p = record {
+  done = λ j h. elim (ℕ-discrete j i) [
+    | yes q ↦ ap (place w m) q ∙ p .here ∙ e ∙ sym (ap (λ (k : ℕ). coefficient k mask) q)
+    | no q ↦ p .other j q ∙ v .done j (omega arith)
+  ];
+}
+
+pub filled-end : {w : ℕ → ℕ} (W : Weights w) (n : ℕ) {mask i : ℕ} {l : List ℕ} → length l ≡ bytesFor n
+    → ((k : ℕ) → getD l k 0 < 256) → bytesFor n * 8 ≤ i → Filled w mask i l → l ≡ bytesOf w n mask
+filled-end W n {mask} {i} {l} long bytes h v = bytes-same W n mask l long bytes (λ j k. v .done j (omega arith))

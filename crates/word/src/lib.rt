@@ -1,0 +1,3 @@
+// Words and messages in bytes; polynomials over the field and over two elements.
+pub mod generator;
+pub mod layout;

@@ -3,11 +3,15 @@
 --   All Q l         every element satisfies Q: none, more; all-map, all-of, all-at
 --   In b l          b is an element: here, there; map-in, in-map
 --   Distinct l      no two elements are equal: d-nil, d-cons; distinct-map
+--   distinct-le     distinct elements that are all in m are no more than m has
 --   prod R f l      the product of f b over the elements b: prod-nil, prod-cons
 --   sumL R f l      their sum: sumL-nil, sumL-cons
 use mathlib.Core.Path.{_≡_, refl, sym, _∙_}
 use mathlib.Core.Logic.{_≢_}
 use mathlib.Core.List.{List, [], _∷_, map}
+use Prim.Native.Nat.{suc, _≤_}
+use native.Mathlib.Omega.{arith}
+use lib.ListN.{length}
 use Rattle.algebra.proofs.Ring.{Ring}
 
 pub data All {B : Type 0} (Q : B → Type 0) : List B → Type 0 where
@@ -51,6 +55,31 @@ distinct-map f (b ∷ l) (d-cons ne d) inj =
     d-cons
     (all-of (map f l) (λ c i e. let r = map-in f i in all-at ne (r .1) (inj b (r .0) here (there (r .1)) (e ∙ sym (r .2)))))
     (distinct-map f l d (λ x y i j. inj x y (there i) (there j)))
+
+-- a list without one of its elements
+record Without {B : Type 0} (b : B) (m : List B) : Type 0 where
+  rest : List B
+  one-less : length m ≡ suc (length rest)
+  keeps : (c : B) → In c m → b ≢ c → In c rest
+
+without : {B : Type 0} {b : B} (m : List B) → In b m → Without b m
+without (b ∷ m) here = record { rest = m; one-less = refl; keeps = keeps }
+  where
+    keeps : (c : _) → In c (b ∷ m) → b ≢ c → In c m
+    keeps c here n = absurd (n refl)
+    keeps c (there i) n = i
+without {B} {b} (a ∷ m) (there i) =
+    let w = without m i in record { rest = a ∷ w .rest; one-less = omega (arith, w .one-less); keeps = keeps w }
+  where
+    keeps : (w : Without b m) (c : B) → In c (a ∷ m) → b ≢ c → In c (a ∷ w .rest)
+    keeps w c here n = here
+    keeps w c (there i) n = there (w .keeps c i n)
+
+pub distinct-le : {B : Type 0} (l m : List B) → Distinct l → ((b : B) → In b l → In b m) → length l ≤ length m
+distinct-le [] m d-nil h = omega arith
+distinct-le (b ∷ l) m (d-cons n d) h =
+    let w = without m (h b here) in
+    omega (arith, w .one-less, distinct-le l (w .rest) d (λ c i. w .keeps c (h c (there i)) (all-at n i)))
 
 module _ {A : Type 0} (R : Ring A) where
   open Ring R using (add as _+_, mul as _*_, 𝟘, 𝟙)

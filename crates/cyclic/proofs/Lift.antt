@@ -27,7 +27,7 @@ use Rattle.cyclic.proofs.Places.{coefficient-z, coefficient-s, coeffici
 use Rattle.cyclic.proofs.Places.{flag-lt, gather, gather-at, gather-lt}
 use Rattle.cyclic.proofs.Monic.{Monic}
 
-lt-of-degree : (a n : ℕ) → a / 2 ^ n ≡ 1 → a < 2 ^ suc n
+pub lt-of-degree : (a n : ℕ) → a / 2 ^ n ≡ 1 → a < 2 ^ suc n
 lt-of-degree a n e = let k : a < 2 *ℕ 2 ^ n = div-lt-iff-lt-mul (pow-pos n) .0 (omega arith) in omega arith
 
 module _ {A : Type 0} (R : Ring A) where

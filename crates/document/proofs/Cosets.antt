@@ -5,19 +5,21 @@
 --   coset-at, coset-of      i is in the coset of r exactly when it is r 2^j mod n for some j, of any size or below s
 --   smallest-at, smallest-of      likewise for the smallest of a coset
 --   coset-doubles, set-doubles    cosets and D are closed under doubling
+--   round                   after s doublings r is back; walk-on, walk-back: exponents add up
 --   walk-start, walk-more      the members of a coset one after the other
 use mathlib.Core.Path.{_≡_, refl, sym, ap, _∙_, subst}
 use mathlib.Core.Bool.{Bool, true, false}
 use mathlib.Core.List.{List}
 use Prim.Native.Nat.{ℕ, suc, _+_, _-_, _*_, _%_, _^_, _≤_, _<_}
-use native.Mathlib.Nat.{mod-lt, mod-eq-of-lt, mul-assoc, mul-one, pow-suc}
+use native.Mathlib.Nat.{mod-lt, mod-eq-of-lt, mul-assoc, mul-comm, mul-one, one-mul, pow-suc}
+use lib.Pow.{pow-add}
 use native.Mathlib.Numerals.{add-one}
 use native.Mathlib.Omega.{arith}
 use lib.Dec.{eqb, leb}
 use borrow.Author.Tests.{eqb-true, eq-eqb, leb-true, le-leb}
 use Rattle.field.specs.Field.{OddLength, orderOfTwo}
 use Rattle.field.proofs.Search.{some-at, some-of, some-map, every-at, every-of}
-use Rattle.field.proofs.OrderOfTwo.{mul-mod, order-lt, order-divides, order-pos}
+use Rattle.field.proofs.OrderOfTwo.{mul-mod, one-iff, order-lt, order-divides, order-mod, order-pos}
 use Rattle.cyclic.proofs.Coset as Coset
 use Rattle.document.specs.Coset.{inCoset, smallest, inSet}
 
@@ -77,3 +79,21 @@ walk-start {n} {r} h = sym (ap (λ (x : ℕ). x % n) (mul-one r) ∙ mod-eq-of-l
 
 pub walk-more : {n : ℕ} → OddLength n → (r j : ℕ) {x y : ℕ} → x ≡ r * 2 ^ j % n → y ≡ x * 2 % n → y ≡ r * 2 ^ (j + 1) % n
 walk-more {n} o r j e q = q ∙ sym (doubled o r _ j (sym e)) ∙ ap (λ (k : ℕ). r * 2 ^ k % n) (sym (add-one j))
+
+pub round : {n r : ℕ} → OddLength n → r < n → r * 2 ^ orderOfTwo n % n ≡ r
+round {n} {r} o h =
+    ap (λ (x : ℕ). x % n) (mul-comm r (2 ^ orderOfTwo n)) ∙ sym (mul-mod (2 ^ orderOfTwo n) r n)
+    ∙ ap (λ (x : ℕ). x * r % n) (one-iff o (orderOfTwo n) .1 (order-mod o)) ∙ ap (λ (x : ℕ). x % n) (one-mul r) ∙ mod-eq-of-lt h
+
+-- exponents add up
+pub walk-on : (n r i k : ℕ) {x : ℕ} → r * 2 ^ i % n ≡ x → x * 2 ^ k % n ≡ r * 2 ^ (i + k) % n
+walk-on n r i k {x} e =
+    ap (λ (y : ℕ). y * 2 ^ k % n) (sym e) ∙ mul-mod (r * 2 ^ i) (2 ^ k) n
+    ∙ ap (λ (y : ℕ). y % n) (mul-assoc r (2 ^ i) (2 ^ k) ∙ ap (λ (y : ℕ). r * y) (sym (pow-add 2 i k)))
+
+-- and so do those that lead back
+pub walk-back : {n r : ℕ} → OddLength n → r < n → (i : ℕ) → i ≤ orderOfTwo n → {x : ℕ} → r * 2 ^ i % n ≡ x
+    → x * 2 ^ (orderOfTwo n - i) % n ≡ r
+walk-back {n} {r} o h i l e =
+    let q : i + (orderOfTwo n - i) ≡ orderOfTwo n = omega arith in
+    walk-on n r i (orderOfTwo n - i) e ∙ ap (λ (k : ℕ). r * 2 ^ k % n) q ∙ round o h

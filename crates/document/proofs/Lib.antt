@@ -7,3 +7,4 @@ pub mod Acceptance
 pub mod Theory
 pub mod GeneratorIs
 pub mod Demand2
+pub mod Join

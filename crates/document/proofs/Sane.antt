@@ -5,6 +5,7 @@
 --   (that D is closed under doubling is set-doubles of Cosets.antt)
 --   set-size            D has n - k members
 --   poly-length, poly-top      the generator has degree n - k: n - k + 1 coefficients, the highest of them 1
+--   empty-set, generator-nil      no representatives: D is empty, and the generator 1
 --   empty-dimension, empty-generator      a sheet with R = 0 has k = n and generator 1
 --   accepted-dimension  an accepted sheet has 1 ≤ k
 use mathlib.Core.Path.{_≡_, refl, sym, ap, ap₂, _∙_, subst}
@@ -124,7 +125,7 @@ poly-top n reps =
     ∙ product-top (orderOfTwo n) (α (orderOfTwo n) n) (definingSet n reps)
 
 -- ---- no representatives
-empty-set : (n : ℕ) → definingSet n [] ≡ []
+pub empty-set : (n : ℕ) → definingSet n [] ≡ []
 unfolding definingSet inSet some
 empty-set n = keep-none (inSet n []) n (λ k h. refl)
 
@@ -138,11 +139,13 @@ empty-dimension sheet e =
     ap (dimension (codeLength sheet)) (none sheet e) ∙ ap (λ l. codeLength sheet - length l) (empty-set (codeLength sheet))
     ∙ sub-zero (codeLength sheet)
 
+pub generator-nil : (n : ℕ) → generator n [] ≡ 1
+unfolding generator generatorPoly rootProduct maskOfPoly total
+generator-nil n = ap (λ l. maskOfPoly (rootProduct (orderOfTwo n) (α (orderOfTwo n) n) l)) (empty-set n)
+
 pub empty-generator : (sheet : List ℕ) → representativeCount sheet ≡ 0 → generatorOf sheet ≡ 1
-unfolding generatorOf generator generatorPoly rootProduct maskOfPoly total
-empty-generator sheet e =
-    let n : ℕ = codeLength sheet in
-    ap (generator n) (none sheet e) ∙ ap (λ l. maskOfPoly (rootProduct (orderOfTwo n) (α (orderOfTwo n) n) l)) (empty-set n)
+unfolding generatorOf
+empty-generator sheet e = ap (generator (codeLength sheet)) (none sheet e) ∙ generator-nil (codeLength sheet)
 
 -- ---- accepted sheets
 pub passed : (r : ℕ) (b : Bool) (rest : Conditions) → firstOf ((suc r, b) ∷ rest) ≡ 0 → (b ≡ false) × (firstOf rest ≡ 0)

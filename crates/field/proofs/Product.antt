@@ -4,17 +4,19 @@
 --   clmul-horner               the product by Horner's rule
 --   clmul-add-l, clmul-add-r, clmul-zero-l, clmul-zero-r, clmul-one-l, clmul-one-r, clmul-comm, clmul-assoc
 --   clmul-dbl-l, clmul-dbl-r, clmul-two, clmul-pow      by x, and by x^i
+--   product-enough             more coefficients of a than there are change nothing
+--   clmul-degree               degrees add up
 use mathlib.Core.Path.{_≡_, refl, sym, ap, ap₂, _∙_, subst}
 use mathlib.Core.Logic.{_⊎_, inl, inr}
 use Prim.Native.Nat.{ℕ, zero, suc, _+_, _*_, _/_, _%_, _^_, _≤_, _<_}
-use native.Mathlib.Nat.{eq-or-lt-of-le, div-one, mul-one, zero-mul, one-mul, mul-assoc, pow-suc, div-lt-iff-lt-mul}
+use native.Mathlib.Nat.{eq-or-lt-of-le, zero-add, zero-div, div-one, mul-one, zero-mul, one-mul, mul-assoc, pow-suc, div-lt-iff-lt-mul}
 use native.Mathlib.Numerals.{one-add}
 use native.Mathlib.Omega.{arith}
 use lib.Pow.{shr-shr, pow-pos}
 use borrow.Author.Tests.{ltb-true}
 use Rattle.field.specs.Mask.{_⊕_, coefficient, size, productBelow, clmul}
 use Rattle.field.proofs.Search.{Least, least-is}
-use Rattle.field.proofs.Xor.{two-pos, digit, digit-lt, ⊕-zero-l, ⊕-assoc, ⊕-norm, Add, add-0, dbl-add, sel}
+use Rattle.field.proofs.Xor.{two-pos, digit, digit-lt, ⊕-zero-l, ⊕-zero-r, ⊕-assoc, ⊕-shr, ⊕-norm, Add, add-0, dbl-half, dbl-add, sel}
 use Rattle.field.proofs.Horner.{horner, lin-ext, horner-0, horner-step, horner-add, horner-dbl, horner-1, horner-map}
 use Rattle.field.proofs.Horner.{horner-vec}
 
@@ -71,6 +73,9 @@ pub clmul-horner : (a b : ℕ) → clmul a b ≡ horner dbl a b
 unfolding clmul
 clmul-horner a b = product-horner (size a) a b (size-lt a)
 
+pub product-enough : (n a b : ℕ) → a < 2 ^ n → productBelow n a b ≡ clmul a b
+product-enough n a b h = product-horner n a b h ∙ sym (clmul-horner a b)
+
 pub clmul-add-l : (b : ℕ) → Add (λ a. clmul a b)
 clmul-add-l b x y = simp clmul-horner (horner-add dbl dbl-add b x y)
 
@@ -114,3 +119,29 @@ clmul-pow a zero = clmul-one-r a ∙ sym (mul-one a)
 clmul-pow a (suc i) =
     ap (clmul a) (pow-suc 2 i) ∙ clmul-dbl-r a (2 ^ i) ∙ ap dbl (clmul-pow a i) ∙ mul-assoc a (2 ^ i) 2
     ∙ ap (λ (x : ℕ). a * x) (sym (pow-suc 2 i))
+
+shr-suc : (m w : ℕ) → m / 2 / 2 ^ w ≡ m / 2 ^ suc w
+shr-suc m w = shr-shr m 1 w ∙ ap (λ (i : ℕ). m / 2 ^ i) (one-add w)
+
+clmul-step : (a b : ℕ) → clmul a b ≡ clmul (a / 2) b * 2 ⊕ sel (a % 2) b
+clmul-step a b =
+    clmul-horner a b ∙ horner-step dbl dbl-add a b ∙ ap (λ (m : ℕ). m * 2 ⊕ sel (a % 2) b) (sym (clmul-horner (a / 2) b))
+
+-- a mask of degree y has nothing from x^(z + 1) on, where z is at least y
+above-degree : (x y b : ℕ) → b / 2 ^ y ≡ 1 → b / 2 ^ suc (x + y) ≡ 0
+above-degree x y b k =
+    let e : suc (x + y) ≡ y + suc x = omega arith in
+    ap (λ (i : ℕ). b / 2 ^ i) e ∙ sym (shr-shr b y (suc x)) ∙ ap (λ (m : ℕ). m / 2 ^ suc x) k ∙ sym (shr-suc 1 x) ∙ zero-div (2 ^ x)
+
+pub clmul-degree : (x y a b : ℕ) → a / 2 ^ x ≡ 1 → b / 2 ^ y ≡ 1 → clmul a b / 2 ^ (x + y) ≡ 1
+clmul-degree zero y a b h k =
+    ap₂ (λ (c z : ℕ). c / 2 ^ z) (ap (λ (c : ℕ). clmul c b) (sym (div-one a) ∙ h) ∙ clmul-one-l b) (zero-add y) ∙ k
+clmul-degree (suc x) y a b h k =
+    let e : suc x + y ≡ suc (x + y) = omega arith in
+    let c : ℕ = clmul (a / 2) b in
+    ap₂ (λ (m w : ℕ). m / 2 ^ w) (clmul-step a b) e ∙ ⊕-shr (c * 2) (sel (a % 2) b) (suc (x + y))
+    ∙ ap₂ _⊕_
+    (sym (shr-suc (c * 2) (x + y)) ∙ ap (λ (m : ℕ). m / 2 ^ (x + y)) (dbl-half c)
+    ∙ clmul-degree x y (a / 2) b (shr-suc a x ∙ h) k)
+    (digit (λ d. sel d b / 2 ^ suc (x + y) ≡ 0) (zero-div (2 ^ suc (x + y))) (above-degree x y b k) (a % 2) (digit-lt a))
+    ∙ ⊕-zero-r 1

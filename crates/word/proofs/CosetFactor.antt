@@ -4,18 +4,17 @@
 --   stepping-first, stepping-more, stepping-end      it holds after the first, is kept, and ends where x is back at r
 --   stepping-lt          where x is not back, m is below s
 --   stepping-roomy       the product is one that times_root takes
-use mathlib.Core.Path.{_≡_, refl, sym, ap, ap₂, _∙_, subst}
+use mathlib.Core.Path.{_≡_, refl, sym, ap, _∙_, subst}
 use mathlib.Core.Logic.{_≢_}
-use mathlib.Core.List.{List, [], _∷_}
+use mathlib.Core.List.{List}
 use Prim.Native.Nat.{ℕ, zero, suc, _+_, _-_, _*_, _%_, _^_, _≤_, _<_}
-use native.Mathlib.Nat.{mul-comm, one-mul, mod-eq-of-lt}
-use native.Mathlib.Decide.{ℕ-discrete, decLt}
+use native.Mathlib.Decide.{ℕ-discrete}
 use native.Mathlib.Numerals.{add-one}
 use native.Mathlib.Omega.{arith}
 use lib.ListN.{length, getD, List·getD-eq-default}
 use Rattle.algebra.proofs.Power.{pow, pow-mod}
-use Rattle.field.specs.Field.{Degree, OddLength, fieldMultiply, fieldPower, orderOfTwo, α}
-use Rattle.field.proofs.OrderOfTwo.{mul-mod, order-pos, order-divides, order-mod, one-iff, count-lt}
+use Rattle.field.specs.Field.{Degree, fieldMultiply, fieldPower, orderOfTwo, α}
+use Rattle.field.proofs.OrderOfTwo.{order-pos, order-divides, count-lt}
 use Rattle.field.proofs.Elements.{GF, el, el-inj, root-order}
 use Rattle.field.proofs.Numbers.{power-add, power-lt, el-power, el-root}
 use Rattle.document.specs.Generator.{timesRoot, rootProduct}
@@ -23,7 +22,7 @@ use Rattle.word.specs.Coefficients.{Roomy, Timed, walk, Walking, One, Wa
 use Rattle.document.proofs.Theory.{Length, degree}
 use Rattle.document.proofs.Sane.{product-length}
 use Rattle.document.proofs.GeneratorIs.{product-small}
-use Rattle.document.proofs.Cosets.{walk-start, walk-more}
+use Rattle.document.proofs.Cosets.{round, walk-start, walk-more}
 use Rattle.word.proofs.TimesRoot.{timed-same}
 
 -- ---- exponents of α are modulo n
@@ -39,11 +38,6 @@ module _ {n : ℕ} (l : Length n) where
       ∙ ap (λ x. pow (GF d) x k) (sym (el-root d n)) ∙ sym (e k))
 
 -- ---- the walk
-round : {n r : ℕ} → OddLength n → r < n → r * 2 ^ orderOfTwo n % n ≡ r
-round {n} {r} o h =
-    ap (λ (x : ℕ). x % n) (mul-comm r (2 ^ orderOfTwo n)) ∙ sym (mul-mod (2 ^ orderOfTwo n) r n)
-    ∙ ap (λ (x : ℕ). x * r % n) (one-iff o (orderOfTwo n) .1 (order-mod o)) ∙ ap (λ (x : ℕ). x % n) (one-mul r) ∙ mod-eq-of-lt h
-
 pub record Stepping (n s r m x root : ℕ) (p : List ℕ) : Type 0 where
   pub pos : 1 ≤ m
   pub most : m ≤ s
@@ -53,7 +47,7 @@ pub record Stepping (n s r m x root : ℕ) (p : List ℕ) : Type 0 where
   pub first : (j : ℕ) → 0 < j → j < m → r * 2 ^ j % n ≢ r
   pub holds : (i : ℕ) → getD p i 0 ≡ getD (rootProduct s (α s n) (walk n r m)) i 0
 
-length-walk : (n r m : ℕ) → length (walk n r m) ≡ m
+pub length-walk : (n r m : ℕ) → length (walk n r m) ≡ m
 unfolding walk
 length-walk n r zero = refl
 length-walk n r (suc m) = ap suc (length-walk n r m)

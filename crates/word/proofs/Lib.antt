@@ -4,3 +4,7 @@ pub mod Places
 pub mod PlaceLoops
 pub mod TimesRoot
 pub mod CosetFactor
+pub mod Sums
+pub mod LongDivision
+pub mod Factor
+pub mod Assembly

@@ -4,7 +4,7 @@
 --   Timed s a p p′       p′ is p times x - a, coefficient by coefficient
 --   walk n r j           the last of the coset's first j members r, 2r, 4r, .. to the first
 --   Walking n s r a      what the walk of a coset needs: a is α^r
---   One s p              p holds the polynomial 1, and has room for degree s
+--   Unit p               p holds the polynomial 1; One s p: and has room for degree s
 --   Walked n s r m p     what it leaves: m members, and p holds the product of x - α^i over them
 use mathlib.Core.Path.{_≡_}
 use mathlib.Core.Logic.{_≢_}
@@ -38,6 +38,9 @@ pub record Walking (n s r a : ℕ) : Type 0 where
 
 pub record One (s : ℕ) (p : List ℕ) : Type 0 where
   pub room : s < length p
+  pub one : (i : ℕ) → getD p i 0 ≡ getD (1 ∷ []) i 0
+
+pub record Unit (p : List ℕ) : Type 0 where
   pub one : (i : ℕ) → getD p i 0 ≡ getD (1 ∷ []) i 0
 
 pub record Walked (n s r m : ℕ) (p : List ℕ) : Type 0 where

@@ -1,2 +1,4 @@
 pub mod Place
 pub mod Coefficients
+pub mod Bits
+pub mod Building

@@ -1,6 +1,5 @@
 -- `code::judge::judge_code` meets its contract: each exit is the definition's, by the marks that refusal 5 leaves.
 use native.Mathlib.Omega.{arith}
-use native.Mathlib.Omega.{arith}
 use mathlib.Core.Path.{_≡_, refl, sym, ap, _∙_, subst}
 use Rattle.code.specs.Weigh.{weighedAs}
 use Rattle.document.specs.Answer.{numberOf, returned}

@@ -1,4 +1,4 @@
--- `code::certificate::check` meets its contract: the rules in turn, one law for each exit.
+-- `sheet::certificate::check` meets its contract: the rules in turn, one law for each exit.
 use native.Mathlib.Omega.{arith}
 use mathlib.Core.Path.{_≡_, sym, ap, _∙_}
 use Rattle.sheet.proofs.Ranges.{Ranged, ranged}

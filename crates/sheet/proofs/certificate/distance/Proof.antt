@@ -1,4 +1,4 @@
--- `code::certificate::distance` meets its contract: u is not 0, and the quotient is small.
+-- `sheet::certificate::distance` meets its contract: u is not 0, and the quotient is small.
 use native.Mathlib.Omega.{arith}
 use mathlib.Core.Path.{ap}
 use Prim.Native.Nat.{ℕ, _+_, _-_, _/_, _≤_}

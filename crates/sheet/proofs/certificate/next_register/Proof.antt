@@ -1,4 +1,4 @@
--- `code::certificate::next_register` meets its contract: by the lowest coefficient.
+-- `sheet::certificate::next_register` meets its contract: by the lowest coefficient.
 use borrow.Author.Needs.{needs}
 use native.Mathlib.Omega.{arith}
 use Rattle.sheet.proofs.Terms.{register-set, register-clear}

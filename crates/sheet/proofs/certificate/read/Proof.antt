@@ -1,4 +1,4 @@
--- `code::certificate::read` meets its contract: the bytes of certificate c stand within the sheet.
+-- `sheet::certificate::read` meets its contract: the bytes of certificate c stand within the sheet.
 use native.Mathlib.Omega.{arith}
 use Rattle.sheet.proofs.Ranges.{certificate-is}
 use borrow.Author.Needs.{needs}

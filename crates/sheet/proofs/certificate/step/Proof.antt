@@ -1,4 +1,4 @@
--- `code::certificate::step` meets its contract: both are below n, so one subtraction is enough.
+-- `sheet::certificate::step` meets its contract: both are below n, so one subtraction is enough.
 use Rattle.sheet.proofs.Terms.{step-low, step-high}
 use borrow.Author.Needs.{needs}
 use Rattle.sheet.proofs.certificate.step.Statement.{statement}

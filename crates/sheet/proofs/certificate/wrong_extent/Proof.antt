@@ -1,4 +1,4 @@
--- `code::certificate::wrong_extent` meets its contract: one law for each exit.
+-- `sheet::certificate::wrong_extent` meets its contract: one law for each exit.
 use borrow.Author.Needs.{needs}
 use native.Mathlib.Omega.{arith}
 use Rattle.sheet.proofs.Ranges.{extent-L-low, extent-L-high, extent-zero, extent-pass}

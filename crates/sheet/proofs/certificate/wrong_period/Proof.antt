@@ -1,4 +1,4 @@
--- `code::certificate::wrong_period` meets its contract: by the test.
+-- `sheet::certificate::wrong_period` meets its contract: by the test.
 use mathlib.Core.Path.{sym, ap, _∙_}
 use mathlib.Core.Bool.{not}
 use Prim.Native.Nat.{ℕ}

@@ -1,4 +1,4 @@
--- `code::certificate::wrong_range` meets its contract: rule 1 holds where its three parts do.
+-- `sheet::certificate::wrong_range` meets its contract: rule 1 holds where its three parts do.
 use mathlib.Core.Path.{sym, _∙_}
 use Rattle.sheet.proofs.Ranges.{range-steps, range-ratio, range-extent, range-pass}
 use borrow.Author.Needs.{needs}

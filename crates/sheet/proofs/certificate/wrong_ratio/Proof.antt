@@ -1,4 +1,4 @@
--- `code::certificate::wrong_ratio` meets its contract: one law for each exit.
+-- `sheet::certificate::wrong_ratio` meets its contract: one law for each exit.
 use native.Mathlib.Omega.{arith}
 use Rattle.sheet.proofs.Ranges.{ratio-u-low, ratio-u-high, ratio-f-odd, ratio-h, ratio-v, ratio-pass}
 use borrow.Author.Needs.{needs}

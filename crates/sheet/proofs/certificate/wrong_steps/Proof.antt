@@ -1,4 +1,4 @@
--- `code::certificate::wrong_steps` meets its contract: one law for each exit.
+-- `sheet::certificate::wrong_steps` meets its contract: one law for each exit.
 use native.Mathlib.Omega.{arith}
 use mathlib.Core.Path.{sym, _∙_}
 use Rattle.sheet.proofs.Ranges.{steps-b, steps-z-low, steps-z-high, steps-z-coprime, steps-pass}

@@ -1,4 +1,4 @@
--- `code::certificate::wrong_terms` meets its contract: num is the register, at its place, and no term before is out of D.
+-- `sheet::certificate::wrong_terms` meets its contract: num is the register, at its place, and no term before is out of D.
 use borrow.Author.Needs.{needs}
 use native.Mathlib.Omega.{arith}
 use Prim.Native.Nat.{ℕ, _-_, _≤_}

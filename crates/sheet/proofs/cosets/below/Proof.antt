@@ -1,4 +1,4 @@
--- `code::cosets::below` meets its contract: by the test.
+-- `sheet::cosets::below` meets its contract: by the test.
 use native.Mathlib.Omega.{arith}
 use borrow.Author.Needs.{needs}
 use mathlib.Core.Path.{sym, ap}

@@ -1,4 +1,4 @@
--- `code::cosets::mark` meets its contract: x is r 2^j, and the members met so far are marked and compared.
+-- `sheet::cosets::mark` meets its contract: x is r 2^j, and the members met so far are marked and compared.
 use borrow.Author.Needs.{needs}
 use native.Mathlib.Omega.{arith}
 use mathlib.Core.Path.{_≡_, refl, sym, ap, _∙_}

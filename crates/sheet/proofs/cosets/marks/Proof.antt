@@ -1,4 +1,4 @@
--- `code::cosets::marks` meets its contract: the sum so far.
+-- `sheet::cosets::marks` meets its contract: the sum so far.
 use borrow.Author.Needs.{needs}
 use native.Mathlib.Omega.{arith}
 use mathlib.Core.Path.{_≡_, sym}

@@ -1,4 +1,4 @@
--- `code::cosets::wrong_representative` meets its contract: the representatives so far are right, and their cosets marked.
+-- `sheet::cosets::wrong_representative` meets its contract: the representatives so far are right, and their cosets marked.
 use borrow.Author.Needs.{needs}
 use native.Mathlib.Omega.{arith}
 use mathlib.Core.Path.{_≡_, refl, sym, ap, _∙_, subst}

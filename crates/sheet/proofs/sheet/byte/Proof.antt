@@ -1,4 +1,4 @@
--- `code::sheet::byte` meets its contract: an element of a slice of bytes is below 256.
+-- `sheet::sheet::byte` meets its contract: an element of a slice of bytes is below 256.
 use native.Mathlib.Omega.{arith}
 use mathlib.Core.Path.{refl}
 use borrow.Author.Needs.{needs}

@@ -1,4 +1,4 @@
--- `code::sheet::wrong_code_length` meets its contract: one law for each exit.
+-- `sheet::sheet::wrong_code_length` meets its contract: one law for each exit.
 use native.Mathlib.Omega.{arith}
 use Rattle.sheet.proofs.Header.{code-1, code-2, code-3, code-pass}
 use borrow.Author.Needs.{needs}

@@ -1,4 +1,4 @@
--- `code::sheet::wrong_degree` meets its contract: n is odd, so s is there to be counted.
+-- `sheet::sheet::wrong_degree` meets its contract: n is odd, so s is there to be counted.
 use native.Mathlib.Omega.{arith}
 use mathlib.Core.Path.{sym, ap, _∙_, subst}
 use Prim.Native.Nat.{ℕ, _≤_, _<_}

@@ -1,4 +1,4 @@
--- `code::sheet::wrong_header` meets its contract: one law for each exit.
+-- `sheet::sheet::wrong_header` meets its contract: one law for each exit.
 use native.Mathlib.Omega.{arith}
 use Rattle.sheet.proofs.Header.{header-1, header-2, header-3, header-4, header-5, header-6, header-7, header-pass}
 use borrow.Author.Needs.{needs}

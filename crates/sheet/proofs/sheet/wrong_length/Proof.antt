@@ -1,4 +1,4 @@
--- `code::sheet::wrong_length` meets its contract: one law for each exit.
+-- `sheet::sheet::wrong_length` meets its contract: one law for each exit.
 use native.Mathlib.Omega.{arith}
 use Rattle.sheet.proofs.Header.{length-1, length-2, length-3, length-pass}
 use borrow.Author.Needs.{needs}

@@ -1,6 +1,5 @@
--- `code::generator::coset_factor` meets its contract: the product holds the members met, and the root of the next one is known.
+-- `word::generator::coset_factor` meets its contract: the product holds the members met, and the root of the next one is known.
 use borrow.Author.Needs.{needs}
-use native.Mathlib.Omega.{arith}
 use native.Mathlib.Omega.{arith}
 use mathlib.Core.Path.{_≡_, refl}
 use Prim.Native.Nat.{_-_, _<_}

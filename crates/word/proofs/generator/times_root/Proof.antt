@@ -1,4 +1,4 @@
--- `code::generator::times_root` meets its contract: above j the product stands, up to j the polynomial as it was.
+-- `word::generator::times_root` meets its contract: above j the product stands, up to j the polynomial as it was.
 use borrow.Author.Needs.{needs}
 use native.Mathlib.Omega.{arith}
 use mathlib.Core.Path.{_≡_, refl, subst}

@@ -1,4 +1,4 @@
--- `code::layout::bytes_for` meets its contract: 8 is 2^3.
+-- `word::layout::bytes_for` meets its contract: 8 is 2^3.
 use mathlib.Core.Path.{refl}
 use Rattle.document.specs.Layout.{bytesFor}
 use borrow.Author.Needs.{needs}

@@ -1,4 +1,4 @@
--- `code::layout::message_place` meets its contract: the law of any layout.
+-- `word::layout::message_place` meets its contract: the law of any layout.
 use native.Mathlib.Omega.{arith}
 use Rattle.word.proofs.Places.{message-weights, read, read-lt}
 use borrow.Author.Needs.{needs}

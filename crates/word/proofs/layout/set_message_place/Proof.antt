@@ -1,4 +1,4 @@
--- `code::layout::set_message_place` meets its contract: the law of any layout.
+-- `word::layout::set_message_place` meets its contract: the law of any layout.
 use Rattle.word.proofs.Places.{message-weights, put}
 use borrow.Author.Needs.{needs}
 use Rattle.word.proofs.layout.set_message_place.Statement.{statement}

@@ -1,4 +1,4 @@
--- `code::layout::set_word_place` meets its contract: the law of any layout.
+-- `word::layout::set_word_place` meets its contract: the law of any layout.
 use Rattle.word.proofs.Places.{word-weights, put}
 use borrow.Author.Needs.{needs}
 use Rattle.word.proofs.layout.set_word_place.Statement.{statement}

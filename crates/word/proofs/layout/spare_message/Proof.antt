@@ -1,4 +1,4 @@
--- `code::layout::spare_message` meets its contract: no place from n to i is 1.
+-- `word::layout::spare_message` meets its contract: no place from n to i is 1.
 use native.Mathlib.Omega.{arith}
 use Prim.Native.Nat.{_-_}
 use Rattle.document.specs.Layout.{messageWeight}

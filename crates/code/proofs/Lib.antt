@@ -1,3 +1,6 @@
 -- From the parts to the entries.
 pub mod Weighing
 pub mod Judging
+pub mod Accepted
+pub mod Words
+pub mod Entries

@@ -1,3 +1,6 @@
 // The entries.
+mod codeword;
+pub mod encode;
 pub mod judge;
+pub mod read;
 mod types;

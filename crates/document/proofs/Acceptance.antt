@@ -1,5 +1,6 @@
 -- What is accepted, and what a refusal says of the conditions.
 --
+--   quiet-first          no condition of a quiet list holds
 --   accepted-iff         a sheet is accepted exactly when no condition 1 to 10 holds
 --   refused-first        a refusal is the number of a condition that holds, and none before it does
 --   certificate-iff      a certificate draws none of 7 to 10 exactly when it meets rules 1 to 4
@@ -80,7 +81,7 @@ judge-number : (sheet : List ℕ) → judgeOf sheet .number ≡ firstOf (judgeCo
 unfolding judgeOf
 judge-number sheet = settle-number (firstOf (judgeConditions sheet)) (recordOf sheet) [] []
 
-quiet-first : {l : Conditions} → Quiet l → firstOf l ≡ 0
+pub quiet-first : {l : Conditions} → Quiet l → firstOf l ≡ 0
 unfolding firstOf
 quiet-first silent = refl
 quiet-first (passing {c = c} {l = l} e q) = rw (firstOf, e, quiet-first q)

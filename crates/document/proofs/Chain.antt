@@ -1,5 +1,6 @@
 -- The chain of conditions, and the working certificate, one certificate more at a time.
 --
+--   first-true, first-false      the first of the conditions holds, or does not
 --   Quiet, first-quiet, quiet-append, first-keep      the first of two lists of conditions
 --   flat-suc, four-quiet, flat-stop      the conditions of the certificates in turn
 --   working-is, First, first-one, first-new, first-same      the working certificate among one more
@@ -27,11 +28,11 @@ pub data Quiet : Conditions → Type 0 where
   silent : Quiet []
   passing : {c : ℕ × Bool} {l : Conditions} → c .1 ≡ false → Quiet l → Quiet (c ∷ l)
 
-first-true : (c : ℕ × Bool) (l : Conditions) → c .1 ≡ true → firstOf (c ∷ l) ≡ c .0
+pub first-true : (c : ℕ × Bool) (l : Conditions) → c .1 ≡ true → firstOf (c ∷ l) ≡ c .0
 unfolding firstOf
 first-true c l e = rw (firstOf, e)
 
-first-false : (c : ℕ × Bool) (l : Conditions) → c .1 ≡ false → firstOf (c ∷ l) ≡ firstOf l
+pub first-false : (c : ℕ × Bool) (l : Conditions) → c .1 ≡ false → firstOf (c ∷ l) ≡ firstOf l
 unfolding firstOf
 first-false c l e = rw (firstOf, e)
 

@@ -2,7 +2,6 @@
 ghost use mathlib.Core.Path.{_≡_};
 ghost use mathlib.Core.Bool.{true, not};
 ghost use Prim.Native.Nat.{_+_, _-_, _*_, _/_, _%_, _<_, _≤_};
-ghost use lib.ListN.{length};
 ghost use Rattle.document.specs.Sheet.{representativeCount, certificateCount, «certificate» as certificateOf};
 ghost use Rattle.document.specs.Certificate.{steps, ratio, extent, rule1};
 ghost use Rattle.sheet.specs.Stage.{Headed, Fits, Walkable, Ruled, Checkable, certificateAs, checkedAs, checkOf, distanceIn};

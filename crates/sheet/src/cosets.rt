@@ -2,12 +2,11 @@
 ghost use mathlib.Core.Path.{_≡_};
 ghost use mathlib.Core.Bool.{false};
 ghost use mathlib.Core.List.{[]};
-ghost use Prim.Native.Nat.{_+_, _-_, _<_, _≤_};
+ghost use Prim.Native.Nat.{_+_, _<_, _≤_};
 ghost use lib.ListN.{length, getD};
 ghost use Rattle.field.specs.Search.{total};
 ghost use Rattle.field.specs.Field.{OddLength, orderOfTwo};
 ghost use Rattle.document.specs.Sheet.{codeLength, representativeCount, representatives};
-ghost use Rattle.document.specs.Judge.{wrongRepresentative};
 ghost use Rattle.sheet.specs.Stage.{Headed, Marked, Marks, Found, isBelow};
 use crate::sheet::byte;
 

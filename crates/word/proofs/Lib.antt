@@ -1,10 +1,4 @@
--- Bits in bytes, and products of polynomials.
-pub mod Digits
+-- Words and messages by their places.
 pub mod Places
 pub mod PlaceLoops
-pub mod TimesRoot
-pub mod CosetFactor
-pub mod Sums
-pub mod LongDivision
-pub mod Factor
-pub mod Assembly
+pub mod Spreading

@@ -32,7 +32,7 @@ use Rattle.field.proofs.Xor.{digit-lt}
 use Rattle.cyclic.proofs.Places.{coefficient-above, same-places}
 use Rattle.document.specs.Layout.{wordWeight, messageWeight, bytesFor, place, maskOf, byteOf, bytesOf, spare}
 use Rattle.word.specs.Place.{Put}
-use Rattle.word.proofs.Digits.{put-same, put-other, sum-at, sum-lt}
+use Rattle.binary.proofs.Digits.{put-same, put-other, sum-at, sum-lt}
 
 -- place i is digit `shift (i mod 8)` of its byte, and digit e that of the place `back e` in the byte
 pub record Weights (w : ℕ → ℕ) : Type 0 where

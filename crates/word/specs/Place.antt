@@ -1,10 +1,13 @@
--- What setting a place leaves. No entry's contract cites this file.
+-- What setting places leaves. No entry's contract cites this file.
 --
 --   Put weight i bit old new      new is old with the bit at place i
+--   Spread weight from at count bytes w w′      w′ is w with the places of the bytes from `from` on, `count` of them, from `at` on
+--   Binary w               each entry is 0 or 1
+--   Packed weight w out    each place of the bytes is the entry of w
 use mathlib.Core.Path.{_≡_}
 use mathlib.Core.Logic.{_≢_}
 use mathlib.Core.List.{List}
-use Prim.Native.Nat.{ℕ, _/_}
+use Prim.Native.Nat.{ℕ, _+_, _*_, _/_, _≤_, _<_}
 use lib.ListN.{length, getD}
 use Rattle.document.specs.Layout.{place}
 
@@ -13,3 +16,14 @@ pub record Put (weight : ℕ → ℕ) (i bit : ℕ) (old new : List ℕ) : Type 
   pub here : place weight new i ≡ bit
   pub other : (j : ℕ) → j ≢ i → place weight new j ≡ place weight old j
   pub outside : (k : ℕ) → k ≢ i / 8 → getD new k 0 ≡ getD old k 0
+
+pub record Spread (weight : ℕ → ℕ) (from at count : ℕ) (bytes w w′ : List ℕ) : Type 0 where
+  pub low : (i : ℕ) → i < at → getD w′ i 0 ≡ getD w i 0
+  pub inside : (j : ℕ) → j < count → getD w′ (at + j) 0 ≡ place weight bytes (from + j)
+  pub high : (i : ℕ) → at + count ≤ i → getD w′ i 0 ≡ getD w i 0
+
+pub record Binary (w : List ℕ) : Type 0 where
+  pub small : (i : ℕ) → getD w i 0 < 2
+
+pub record Packed (weight : ℕ → ℕ) (w out : List ℕ) : Type 0 where
+  pub at : (i : ℕ) → i < length out * 8 → place weight out i ≡ getD w i 0

@@ -5,18 +5,18 @@ ghost use lib.ListN.{length};
 ghost use Rattle.document.specs.Layout.{wordWeight, messageWeight, bytesFor, place, spare};
 ghost use Rattle.word.specs.Place.{Put};
 
-pub fn word_place(bytes: &[u8], i: usize) -> usize
+pub fn word_place(bytes: &[u8], i: usize) -> u8
     requires { ⌜ i / 8 < length (now bytes) ⌝ }
     ensures { λ r. ⌜ r ≡ place wordWeight (now (bytes .entry)) i ⌝ }
 {
-    ((bytes[i / 8] >> (i % 8)) & 1) as usize
+    (bytes[i / 8] >> (i % 8)) & 1
 }
 
-pub fn message_place(bytes: &[u8], i: usize) -> usize
+pub fn message_place(bytes: &[u8], i: usize) -> u8
     requires { ⌜ i / 8 < length (now bytes) ⌝ }
     ensures { λ r. ⌜ r ≡ place messageWeight (now (bytes .entry)) i ⌝ }
 {
-    ((bytes[i / 8] >> (i % 8)) & 1) as usize
+    (bytes[i / 8] >> (i % 8)) & 1
 }
 
 pub fn set_word_place(bytes: &mut [u8], i: usize, bit: u8)

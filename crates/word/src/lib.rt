@@ -1,4 +1,3 @@
-// Words and messages in bytes; polynomials over the field and over two elements.
-pub mod bits;
-pub mod generator;
+// Words and messages in bytes.
 pub mod layout;
+pub mod spread;

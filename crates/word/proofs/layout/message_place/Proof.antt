@@ -1,6 +1,6 @@
 -- `word::layout::message_place` meets its contract: the law of any layout.
 use native.Mathlib.Omega.{arith}
-use Rattle.word.proofs.Places.{message-weights, read, read-lt}
+use Rattle.word.proofs.Places.{message-weights, read}
 use borrow.Author.Needs.{needs}
 use Rattle.word.proofs.layout.message_place.Statement.{statement}
 use Rattle.word.proofs.layout.message_place.Tie as tie
@@ -14,12 +14,9 @@ cast-result c = search needs
 shr-result : tie.Need-shr-result
 shr-result c = search needs
 
-cast-result-2 : tie.Need-cast-result-2
-cast-result-2 c = omega (arith, read-lt message-weights (c .before .args .bytes .now) (c .before .args .i))
-
 returns : tie.Need-returns
 returns c = read message-weights _ _
 
 pub message-place-spec : {M : Type 1} → statement M
 message-place-spec =
-    tie.close (tie.spec shared-slice-read-result cast-result shr-result cast-result-2 returns)
+    tie.close (tie.spec shared-slice-read-result cast-result shr-result returns)

@@ -1,0 +1,194 @@
+-- The exits of the entries on words.
+--
+--   entry-sheet, entry-refused, entry-done      a refused sheet, a later condition, none: for any entry
+--   encode-sheet, read-sheet    a refused sheet at each
+--   encode-message, encode-out, encode-spare, encode-done      the exits of encoding an accepted sheet's message
+--   read-word, read-out, read-spare, read-none, read-done      those of reading out
+use mathlib.Core.Path.{_≡_, refl, sym, ap, ap₂, _∙_}
+use mathlib.Core.Logic.{_≢_}
+use mathlib.Core.Bool.{Bool, true, false, not}
+use mathlib.Core.List.{List, [], _∷_, _++_}
+use Prim.Native.Nat.{ℕ, zero, suc, _+_, _-_, _<_}
+use native.Mathlib.Omega.{arith}
+use lib.ListN.{length}
+use borrow.Author.Tests.{eq-eqb, ne-eqb}
+use Rattle.document.specs.declared.types.Refusal.{Refusal}
+use Rattle.document.specs.Answer.{Answer, returned, refused, numberOf, Conditions, firstOf, settle}
+use Rattle.document.specs.Layout.{wordWeight, messageWeight, bytesFor, maskOf, bytesOf, spare}
+use Rattle.document.specs.Sheet.{codeLength}
+use Rattle.document.specs.Generator.{isCodeword, messageOf}
+use Rattle.document.specs.Judge.{judgeConditions, dimensionOf, recordOf, judgeOf}
+use Rattle.document.specs.Entry.{wrongSize, generatorOf, wordOf, encodeConditions, encodedWord, encodeOf, readConditions, readOf}
+use Rattle.document.proofs.Sane.{settle-number}
+use Rattle.document.proofs.Chain.{Quiet, first-true, first-false, first-quiet, first-keep}
+use Rattle.code.proofs.Weighing.{number-pos}
+use Rattle.code.specs.Room.{Usable, Tested, MessageRead}
+
+-- ---- any entry
+module _ (sheet : List ℕ) (conds : Conditions) (v w old : List ℕ) where
+  abbrev answer : Answer × List ℕ
+  answer = settle (firstOf (judgeConditions sheet ++ conds)) v w old
+
+  settled : (r : ℕ) → firstOf (judgeConditions sheet ++ conds) ≡ suc r → (refused (suc r), old) ≡ answer
+  unfolding settle
+  settled r e = sym (ap (λ (x : ℕ). settle x v w old) e)
+
+  judged-first : (r : ℕ) → refused (suc r) ≡ judgeOf sheet → firstOf (judgeConditions sheet) ≡ suc r
+  unfolding judgeOf
+  judged-first r e =
+      sym (settle-number (firstOf (judgeConditions sheet)) (recordOf sheet) [] []) ∙ sym (ap (λ (a : Answer). a .number) e)
+
+  pub entry-sheet : (r : ℕ) → 0 < r → refused r ≡ judgeOf sheet → (refused r, old) ≡ answer
+  entry-sheet zero h e = absurd (omega arith)
+  entry-sheet (suc r) h e = settled r (first-keep (judgeConditions sheet) conds r (judged-first r e))
+
+  pub entry-refused : (r : ℕ) → Quiet (judgeConditions sheet) → firstOf conds ≡ suc r → (refused (suc r), old) ≡ answer
+  entry-refused r q e = settled r (first-quiet conds q ∙ e)
+
+  pub entry-done : {w′ : List ℕ} → Quiet (judgeConditions sheet) → firstOf conds ≡ 0 → w′ ≡ w → (returned v, w′) ≡ answer
+  unfolding settle
+  entry-done q e f = ap (λ (x : List ℕ). (returned v, x)) f ∙ sym (ap (λ (x : ℕ). settle x v w old) (first-quiet conds q ∙ e))
+
+-- ---- conditions
+first-nil : firstOf [] ≡ 0
+unfolding firstOf
+first-nil = refl
+
+size-wrong : (k : ℕ) (b : List ℕ) → length b ≢ bytesFor k → wrongSize k b ≡ true
+size-wrong k b h = ap not (ne-eqb (length b) (bytesFor k) h)
+
+size-right : (k : ℕ) (b : List ℕ) → length b ≡ bytesFor k → wrongSize k b ≡ false
+size-right k b h = ap not (eq-eqb (length b) (bytesFor k) h)
+
+-- ---- encoding
+pub encode-sheet : (sheet message out : List ℕ) (q : Refusal) → refused (numberOf q) ≡ judgeOf sheet
+    → (refused (numberOf q), out) ≡ encodeOf sheet message out
+unfolding encodeOf
+encode-sheet sheet message out q e =
+    entry-sheet sheet (encodeConditions sheet message out) (0 ∷ []) (bytesOf wordWeight (codeLength sheet) (encodedWord sheet message))
+    out (numberOf q) (number-pos q) e
+
+module _ {sheet : List ℕ} {n k s : ℕ} (u : Usable sheet n k s) (message out : List ℕ) where
+  abbrev written : List ℕ
+  written = bytesOf wordWeight (codeLength sheet) (encodedWord sheet message)
+
+  pub encode-message : length message ≢ bytesFor k → (refused 11, out) ≡ encodeOf sheet message out
+  unfolding encodeOf encodeConditions
+  encode-message h =
+      entry-refused sheet (encodeConditions sheet message out) (0 ∷ []) written out 10 (u .quiet)
+      (first-true (11, wrongSize (dimensionOf sheet) message) _
+      (size-wrong (dimensionOf sheet) message (λ e. h (e ∙ ap bytesFor (sym (u .k-is))))))
+
+  module _ (a : length message ≡ bytesFor k) where
+    one : wrongSize (dimensionOf sheet) message ≡ false
+    one = size-right (dimensionOf sheet) message (a ∙ ap bytesFor (u .k-is))
+
+    pub encode-out : length out ≢ bytesFor n → (refused 11, out) ≡ encodeOf sheet message out
+    unfolding encodeOf encodeConditions
+    encode-out h =
+        entry-refused sheet (encodeConditions sheet message out) (0 ∷ []) written out 10 (u .quiet)
+        (first-false (11, wrongSize (dimensionOf sheet) message) _ one
+        ∙ first-true (11, wrongSize (codeLength sheet) out) _
+        (size-wrong (codeLength sheet) out (λ e. h (e ∙ ap bytesFor (sym (u .n-is))))))
+
+    module _ (b : length out ≡ bytesFor n) where
+      two : wrongSize (codeLength sheet) out ≡ false
+      two = size-right (codeLength sheet) out (b ∙ ap bytesFor (u .n-is))
+
+      pub encode-spare : spare messageWeight k message ≡ true → (refused 12, out) ≡ encodeOf sheet message out
+      unfolding encodeOf encodeConditions
+      encode-spare h =
+          entry-refused sheet (encodeConditions sheet message out) (0 ∷ []) written out 11 (u .quiet)
+          (first-false (11, wrongSize (dimensionOf sheet) message) _ one
+          ∙ first-false (11, wrongSize (codeLength sheet) out) _ two
+          ∙ first-true (12, spare messageWeight (dimensionOf sheet) message) _
+          (ap (λ (x : ℕ). spare messageWeight x message) (sym (u .k-is)) ∙ h))
+
+      pub encode-done : {out′ : List ℕ} → spare messageWeight k message ≡ false → out′ ≡ bytesOf wordWeight n (encodedWord sheet message)
+          → (returned (0 ∷ []), out′) ≡ encodeOf sheet message out
+      unfolding encodeOf encodeConditions
+      encode-done h e =
+          entry-done sheet (encodeConditions sheet message out) (0 ∷ []) written out (u .quiet)
+          (first-false (11, wrongSize (dimensionOf sheet) message) _ one
+          ∙ first-false (11, wrongSize (codeLength sheet) out) _ two
+          ∙ first-false (12, spare messageWeight (dimensionOf sheet) message) []
+          (ap (λ (x : ℕ). spare messageWeight x message) (sym (u .k-is)) ∙ h) ∙ first-nil)
+          (e ∙ ap (λ (x : ℕ). bytesOf wordWeight x (encodedWord sheet message)) (u .n-is))
+
+-- ---- reading out
+pub read-sheet : (sheet word out : List ℕ) (q : Refusal) → refused (numberOf q) ≡ judgeOf sheet
+    → (refused (numberOf q), out) ≡ readOf sheet word out
+unfolding readOf
+read-sheet sheet word out q e =
+    entry-sheet sheet (readConditions sheet word out) (0 ∷ [])
+    (bytesOf messageWeight (dimensionOf sheet) (messageOf (codeLength sheet - dimensionOf sheet) (wordOf sheet word)))
+    out (numberOf q) (number-pos q) e
+
+module _ {sheet : List ℕ} {n k s : ℕ} (u : Usable sheet n k s) (word out : List ℕ) where
+  abbrev message : List ℕ
+  message = bytesOf messageWeight (dimensionOf sheet) (messageOf (codeLength sheet - dimensionOf sheet) (wordOf sheet word))
+
+  abbrev none : Bool
+  none = not (isCodeword (codeLength sheet - dimensionOf sheet) (generatorOf sheet) (wordOf sheet word))
+
+  pub read-word : length word ≢ bytesFor n → (refused 11, out) ≡ readOf sheet word out
+  unfolding readOf readConditions
+  read-word h =
+      entry-refused sheet (readConditions sheet word out) (0 ∷ []) message out 10 (u .quiet)
+      (first-true (11, wrongSize (codeLength sheet) word) _
+      (size-wrong (codeLength sheet) word (λ e. h (e ∙ ap bytesFor (sym (u .n-is))))))
+
+  module _ (a : length word ≡ bytesFor n) where
+    first : wrongSize (codeLength sheet) word ≡ false
+    first = size-right (codeLength sheet) word (a ∙ ap bytesFor (u .n-is))
+
+    pub read-out : length out ≢ bytesFor k → (refused 11, out) ≡ readOf sheet word out
+    unfolding readOf readConditions
+    read-out h =
+        entry-refused sheet (readConditions sheet word out) (0 ∷ []) message out 10 (u .quiet)
+        (first-false (11, wrongSize (codeLength sheet) word) _ first
+        ∙ first-true (11, wrongSize (dimensionOf sheet) out) _
+        (size-wrong (dimensionOf sheet) out (λ e. h (e ∙ ap bytesFor (sym (u .k-is))))))
+
+    module _ (b : length out ≡ bytesFor k) where
+      second : wrongSize (dimensionOf sheet) out ≡ false
+      second = size-right (dimensionOf sheet) out (b ∙ ap bytesFor (u .k-is))
+
+      pub read-spare : spare wordWeight n word ≡ true → (refused 12, out) ≡ readOf sheet word out
+      unfolding readOf readConditions
+      read-spare h =
+          entry-refused sheet (readConditions sheet word out) (0 ∷ []) message out 11 (u .quiet)
+          (first-false (11, wrongSize (codeLength sheet) word) _ first
+          ∙ first-false (11, wrongSize (dimensionOf sheet) out) _ second
+          ∙ first-true (12, spare wordWeight (codeLength sheet) word) _
+          (ap (λ (x : ℕ). spare wordWeight x word) (sym (u .n-is)) ∙ h))
+
+      module _ (c : spare wordWeight n word ≡ false) where
+        third : spare wordWeight (codeLength sheet) word ≡ false
+        third = ap (λ (x : ℕ). spare wordWeight x word) (sym (u .n-is)) ∙ c
+
+        pub read-none : {w : List ℕ} {r : Bool} → Tested sheet word w r → r ≡ true → (refused 14, out) ≡ readOf sheet word out
+        unfolding readOf readConditions
+        read-none t e =
+            entry-refused sheet (readConditions sheet word out) (0 ∷ []) message out 13 (u .quiet)
+            (first-false (11, wrongSize (codeLength sheet) word) _ first
+            ∙ first-false (11, wrongSize (dimensionOf sheet) out) _ second
+            ∙ first-false (12, spare wordWeight (codeLength sheet) word) _ third ∙ first-true (14, none) _ (sym (t .is) ∙ e))
+
+        pub read-done : {w out′ : List ℕ} {r : Bool} → Tested sheet word w r → r ≡ false → MessageRead (n - k) k word out′
+            → (returned (0 ∷ []), out′) ≡ readOf sheet word out
+        unfolding readOf readConditions
+        read-done t e m =
+            entry-done sheet (readConditions sheet word out) (0 ∷ []) message out (u .quiet)
+            (first-false (11, wrongSize (codeLength sheet) word) _ first
+            ∙ first-false (11, wrongSize (dimensionOf sheet) out) _ second
+            ∙ first-false (12, spare wordWeight (codeLength sheet) word) _ third ∙ first-false (14, none) [] (sym (t .is) ∙ e) ∙ first-nil)
+            (m .is ∙ same)
+          where
+            whole : n - k + k ≡ n
+            whole = omega (arith, u .k-le)
+
+            same : bytesOf messageWeight k (messageOf (n - k) (maskOf wordWeight (n - k + k) word)) ≡ message
+            same =
+                ap (λ (x : ℕ). bytesOf messageWeight k (messageOf (n - k) (maskOf wordWeight x word))) whole
+                ∙ ap₂ (λ (x y : ℕ). bytesOf messageWeight y (messageOf (x - y) (maskOf wordWeight x word))) (u .n-is) (u .k-is)

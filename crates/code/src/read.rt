@@ -1,0 +1,60 @@
+// Reading out: the message in the high places of a codeword.
+ghost use mathlib.Core.Path.{_≡_};
+ghost use Prim.Native.Nat.{_-_};
+ghost use Rattle.document.specs.Answer.{repliedAs};
+ghost use Rattle.document.specs.Entry.{readOf};
+ghost use Rattle.code.specs.Room.{Usable, Readable, MessageRead};
+use crate::codeword::no_codeword;
+use crate::judge::judge;
+use document::types::Judged;
+use document::types::Refusal;
+use document::types::Reply;
+use word::layout::bytes_for;
+use word::layout::spare_word;
+use word::spread::pack_message;
+use word::spread::spread_word;
+
+// The message in the k places of a word from m on. w holds 0.
+fn write_message(word: &[u8], m: usize, k: usize, w: &mut [u8], out: &mut [u8])
+    requires { ⌜ Readable m k (now word) (now w) (now out) ⌝ }
+    ensures { λ _. ⌜ MessageRead m k (now (word .entry)) (now (out .exit)) ⌝ }
+{
+    spread_word(word, m, k, w);
+    pack_message(w, out);
+}
+
+// Refusals 11, 12 and 14, and the message where none is drawn.
+fn read_accepted(sheet: &[u8], n: usize, k: usize, s: usize, word: &[u8], out: &mut [u8]) -> Reply
+    requires { ⌜ Usable (now sheet) n k s ⌝ }
+    ensures { λ r. ⌜ (repliedAs r, now (out .exit)) ≡ readOf (now (sheet .entry)) (now (word .entry)) (now (out .entry)) ⌝ }
+{
+    if word.len() != bytes_for(n) {
+        return Reply::Refused(Refusal::BufferLength);
+    }
+    if out.len() != bytes_for(k) {
+        return Reply::Refused(Refusal::BufferLength);
+    }
+    if spare_word(n, word) {
+        return Reply::Refused(Refusal::SpareBit);
+    }
+    let mut g = [0u8; 144];
+    let mut p = [0u16; 16];
+    let mut w = [0u8; 144];
+    g[0] = 1;
+    if no_codeword(sheet, n, k, s, word, &mut g, &mut p, &mut w) {
+        return Reply::Refused(Refusal::NoCodeword);
+    }
+    write_message(word, n - k, k, &mut w, out);
+    Reply::Done(0)
+}
+
+// The message of a codeword into out.
+pub fn read(sheet: &[u8], word: &[u8], out: &mut [u8]) -> Reply
+    ensures { λ r. ⌜ (repliedAs r, now (out .exit)) ≡ readOf (now (sheet .entry)) (now (word .entry)) (now (out .entry)) ⌝ }
+{
+    let judged = judge(sheet);
+    match judged {
+        Judged::Refused(r) => Reply::Refused(r),
+        Judged::Accepted(a) => read_accepted(sheet, a.n, a.k, a.s, word, out),
+    }
+}

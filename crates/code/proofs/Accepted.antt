@@ -26,7 +26,7 @@ use Rattle.document.proofs.Acceptance.{quiet-first, accepted-iff}
 use Rattle.sheet.specs.Stage.{Headed}
 use Rattle.sheet.proofs.Header.{headed}
 use Rattle.binary.specs.Building.{Rising}
-use Rattle.code.specs.Room.{Usable}
+use Rattle.codeword.specs.Room.{Usable}
 
 -- ---- the record
 accepted-is : (sheet : List ℕ) → Quiet (judgeConditions sheet) → judgeOf sheet ≡ returned (recordOf sheet)

@@ -22,7 +22,7 @@ use Rattle.document.specs.Entry.{wrongSize, generatorOf, wordOf, encodeConditio
 use Rattle.document.proofs.Sane.{settle-number}
 use Rattle.document.proofs.Chain.{Quiet, first-true, first-false, first-quiet, first-keep}
 use Rattle.code.proofs.Weighing.{number-pos}
-use Rattle.code.specs.Room.{Usable, Tested, MessageRead}
+use Rattle.codeword.specs.Room.{Usable, Tested, MessageRead}
 
 -- ---- any entry
 module _ (sheet : List ℕ) (conds : Conditions) (v w old : List ℕ) where

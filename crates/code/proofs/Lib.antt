@@ -2,5 +2,4 @@
 pub mod Weighing
 pub mod Judging
 pub mod Accepted
-pub mod Words
 pub mod Entries

@@ -1,2 +1,1 @@
 pub mod Weigh
-pub mod Room

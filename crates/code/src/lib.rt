@@ -1,5 +1,4 @@
 // The entries.
-mod codeword;
 pub mod encode;
 pub mod judge;
 pub mod read;

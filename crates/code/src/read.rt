@@ -3,25 +3,15 @@ ghost use mathlib.Core.Path.{_≡_};
 ghost use Prim.Native.Nat.{_-_};
 ghost use Rattle.document.specs.Answer.{repliedAs};
 ghost use Rattle.document.specs.Entry.{readOf};
-ghost use Rattle.code.specs.Room.{Usable, Readable, MessageRead};
-use crate::codeword::no_codeword;
+ghost use Rattle.codeword.specs.Room.{Usable};
 use crate::judge::judge;
+use codeword::test::no_codeword;
+use codeword::write::write_message;
 use document::types::Judged;
 use document::types::Refusal;
 use document::types::Reply;
 use word::layout::bytes_for;
 use word::layout::spare_word;
-use word::spread::pack_message;
-use word::spread::spread_word;
-
-// The message in the k places of a word from m on. w holds 0.
-fn write_message(word: &[u8], m: usize, k: usize, w: &mut [u8], out: &mut [u8])
-    requires { ⌜ Readable m k (now word) (now w) (now out) ⌝ }
-    ensures { λ _. ⌜ MessageRead m k (now (word .entry)) (now (out .exit)) ⌝ }
-{
-    spread_word(word, m, k, w);
-    pack_message(w, out);
-}
 
 // Refusals 11, 12 and 14, and the message where none is drawn.
 fn read_accepted(sheet: &[u8], n: usize, k: usize, s: usize, word: &[u8], out: &mut [u8]) -> Reply

@@ -1,7 +1,7 @@
 -- `code::encode::encode_accepted` meets its contract: one law for each exit.
 use native.Mathlib.Omega.{arith}
 use mathlib.Core.Path.{sym, _∙_}
-use Rattle.code.proofs.Words.{fresh}
+use Rattle.codeword.proofs.Words.{fresh}
 use Rattle.code.proofs.Entries.{encode-message, encode-out, encode-spare, encode-done}
 use borrow.Author.Needs.{needs}
 use Rattle.code.proofs.encode.encode_accepted.Statement.{statement}

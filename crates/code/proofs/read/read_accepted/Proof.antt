@@ -1,7 +1,7 @@
 -- `code::read::read_accepted` meets its contract: one law for each exit.
 use native.Mathlib.Omega.{arith}
 use mathlib.Core.Path.{sym, _∙_}
-use Rattle.code.proofs.Words.{fresh, split-long}
+use Rattle.codeword.proofs.Words.{fresh, split-long}
 use Rattle.code.proofs.Entries.{read-word, read-out, read-spare, read-none, read-done}
 use borrow.Author.Needs.{needs}
 use Rattle.code.proofs.read.read_accepted.Statement.{statement}

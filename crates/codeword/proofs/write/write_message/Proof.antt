@@ -1,13 +1,13 @@
--- `code::read::write_message` meets its contract: the places from m on are the mask's quotient by x^m.
+-- `codeword::write::write_message` meets its contract: the places from m on are the mask's quotient by x^m.
 use native.Mathlib.Omega.{arith}
 use mathlib.Core.Path.{refl}
 use Prim.Native.Nat.{_+_}
 use Rattle.word.proofs.Places.{for-le}
 use Rattle.word.proofs.Spreading.{spread-part, held-binary}
-use Rattle.code.proofs.Words.{message-read, for-most}
+use Rattle.codeword.proofs.Words.{message-read, for-most}
 use borrow.Author.Needs.{needs}
-use Rattle.code.proofs.read.write_message.Statement.{statement}
-use Rattle.code.proofs.read.write_message.Tie as tie
+use Rattle.codeword.proofs.write.write_message.Statement.{statement}
+use Rattle.codeword.proofs.write.write_message.Tie as tie
 
 spread-word-requires : tie.Need-spread-word-requires
 spread-word-requires c κs = let r = c .before .before .before .before .pre in (omega (arith, r .word-long, for-le (c .before .before .before .before .args .m + c .before .before .before .before .args .k)), omega (arith, r .w-long), omega (arith, r .most))

@@ -1,10 +1,10 @@
--- `code::encode::codeword_places` meets its contract: division leaves the remainder, and the message goes above it.
+-- `codeword::write::codeword_places` meets its contract: division leaves the remainder, and the message goes above it.
 use native.Mathlib.Omega.{arith}
 use Rattle.word.proofs.Places.{for-le}
-use Rattle.code.proofs.Words.{encoded}
+use Rattle.codeword.proofs.Words.{encoded}
 use borrow.Author.Needs.{needs}
-use Rattle.code.proofs.encode.codeword_places.Statement.{statement}
-use Rattle.code.proofs.encode.codeword_places.Tie as tie
+use Rattle.codeword.proofs.write.codeword_places.Statement.{statement}
+use Rattle.codeword.proofs.write.codeword_places.Tie as tie
 
 spread-message-requires : tie.Need-spread-message-requires
 spread-message-requires c κs = let r = c .before .before .before .before .pre in (omega (arith, r .1, for-le (c .before .before .before .before .args .k)), omega (arith, r .0, r .3))

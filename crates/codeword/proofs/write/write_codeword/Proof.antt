@@ -1,10 +1,10 @@
--- `code::encode::write_codeword` meets its contract: generator, places, bytes.
+-- `codeword::write::write_codeword` meets its contract: generator, places, bytes.
 use native.Mathlib.Omega.{arith}
 use Rattle.word.proofs.Spreading.{held-binary}
-use Rattle.code.proofs.Words.{encoded-holds, encoded-bytes, for-most}
+use Rattle.codeword.proofs.Words.{encoded-holds, encoded-bytes, for-most}
 use borrow.Author.Needs.{needs}
-use Rattle.code.proofs.encode.write_codeword.Statement.{statement}
-use Rattle.code.proofs.encode.write_codeword.Tie as tie
+use Rattle.codeword.proofs.write.write_codeword.Statement.{statement}
+use Rattle.codeword.proofs.write.write_codeword.Tie as tie
 
 sheet-generator-requires : tie.Need-sheet-generator-requires
 sheet-generator-requires c κs = search needs

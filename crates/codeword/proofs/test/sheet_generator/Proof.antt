@@ -1,10 +1,10 @@
--- `code::codeword::sheet_generator` meets its contract: the sheet's representatives are a part of its bytes.
+-- `codeword::test::sheet_generator` meets its contract: the sheet's representatives are a part of its bytes.
 use native.Mathlib.Omega.{arith}
 use Rattle.binary.proofs.Assembly.{building-start}
-use Rattle.code.proofs.Words.{lengths-of, part-end, part-rising, generated}
+use Rattle.codeword.proofs.Words.{lengths-of, part-end, part-rising, generated}
 use borrow.Author.Needs.{needs}
-use Rattle.code.proofs.codeword.sheet_generator.Statement.{statement}
-use Rattle.code.proofs.codeword.sheet_generator.Tie as tie
+use Rattle.codeword.proofs.test.sheet_generator.Statement.{statement}
+use Rattle.codeword.proofs.test.sheet_generator.Tie as tie
 
 byte-requires : tie.Need-byte-requires
 byte-requires c κs = search needs

@@ -1,10 +1,10 @@
--- `code::codeword::no_codeword` meets its contract: the remainder by the generator is 0 exactly for codewords.
+-- `codeword::test::no_codeword` meets its contract: the remainder by the generator is 0 exactly for codewords.
 use native.Mathlib.Omega.{arith}
 use Rattle.word.proofs.Places.{for-le}
-use Rattle.code.proofs.Words.{tested}
+use Rattle.codeword.proofs.Words.{tested}
 use borrow.Author.Needs.{needs}
-use Rattle.code.proofs.codeword.no_codeword.Statement.{statement}
-use Rattle.code.proofs.codeword.no_codeword.Tie as tie
+use Rattle.codeword.proofs.test.no_codeword.Statement.{statement}
+use Rattle.codeword.proofs.test.no_codeword.Tie as tie
 
 sheet-generator-requires : tie.Need-sheet-generator-requires
 sheet-generator-requires c κs = search needs

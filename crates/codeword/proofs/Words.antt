@@ -38,7 +38,7 @@ use Rattle.binary.specs.Building.{Rising, Lengths, Building}
 use Rattle.word.specs.Place.{Spread, Packed}
 use Rattle.word.proofs.Places.{word-weights, message-weights, mask-lt}
 use Rattle.word.proofs.Spreading.{spread-part, spread-shifted, packed-is}
-use Rattle.code.specs.Room.{Usable, Fresh, Generated, Tested, Encoded, MessageRead}
+use Rattle.codeword.specs.Room.{Usable, Fresh, Generated, Tested, Encoded, MessageRead}
 
 -- ---- the generator
 module _ {sheet : List ℕ} {n k s : ℕ} (u : Usable sheet n k s) where

@@ -1,9 +1,9 @@
-// What encoding and reading out share: the sheet's generator, and the test for a codeword.
+// The sheet's generator, and the test for a codeword.
 ghost use mathlib.Core.Path.{_≡_};
 ghost use Prim.Native.Nat.{_+_};
 ghost use lib.ListN.{length};
 ghost use Rattle.document.specs.Layout.{bytesFor};
-ghost use Rattle.code.specs.Room.{Usable, Fresh, Generated, Tested};
+ghost use Rattle.codeword.specs.Room.{Usable, Fresh, Generated, Tested};
 use binary::bits::any;
 use binary::bits::divide;
 use binary::generator::generator;
@@ -11,7 +11,7 @@ use sheet::sheet::byte;
 use word::spread::spread_word;
 
 // The generator of an accepted sheet in place of 1 in g; its degree. p and w are room, and w holds 0 before and after.
-pub(crate) fn sheet_generator(
+pub fn sheet_generator(
     sheet: &[u8],
     n: usize,
     k: usize,
@@ -28,7 +28,7 @@ pub(crate) fn sheet_generator(
 }
 
 // Whether a word of the right length is no codeword: its remainder by the generator is not 0. Where it is one, w holds 0 again.
-pub(crate) fn no_codeword(
+pub fn no_codeword(
     sheet: &[u8],
     n: usize,
     k: usize,

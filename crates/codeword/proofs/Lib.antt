@@ -1,0 +1,2 @@
+-- From the parts to the definitions of entries on words.
+pub mod Words

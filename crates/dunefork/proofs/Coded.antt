@@ -1,0 +1,75 @@
+-- The codes of answers.
+--
+--   replied            a reply that is one of its cases
+--   coded-refused      a refusal's code is minus its number
+--   encode-done, read-done      what encoding and reading out return is 0
+use mathlib.Core.Path.{_≡_, refl, sym, ap, _∙_}
+use mathlib.Core.List.{List, [], _∷_}
+use Prim.Native.Nat.{ℕ, zero, suc, _<_}
+use native.Mathlib.Omega.{arith}
+use lib.IntN.{ℤ, pos, negℤ}
+use lib.ListN.{getD}
+use mir.Syntax.{w32}
+use mir.Val.{toZ, ofZ}
+use Rattle.document.specs.declared.types.Refusal.{Refusal}
+use Rattle.document.specs.declared.types.Refusal.the-variants.{SheetLength, CodeLength, FieldDegree, Header, Representative, NoMessage, Range}
+use Rattle.document.specs.declared.types.Refusal.the-variants.{CommonFactor, Period, Term, BufferLength, SpareBit, NoneNear, NoCodeword}
+use Rattle.document.specs.declared.types.Reply.{Reply}
+use Rattle.document.specs.Answer.{Answer, returned, refused, numberOf, repliedAs, settle}
+use Rattle.document.specs.Entry.{encodeOf, readOf}
+use Rattle.code.proofs.Weighing.{number-pos}
+use Rattle.dunefork.specs.Codes.{codeFor, codedAs}
+
+minus : (r : ℕ) → 0 < r → codeFor r [] ≡ negℤ (pos r)
+unfolding codeFor
+minus zero h = absurd (omega arith)
+minus (suc r) h = refl
+
+-- a code of 32 bits is read back as it was
+kept : (q : Refusal) → toZ w32 (ofZ w32 (negℤ (pos (numberOf q)))) ≡ negℤ (pos (numberOf q))
+kept SheetLength = refl
+kept CodeLength = refl
+kept FieldDegree = refl
+kept Header = refl
+kept Representative = refl
+kept NoMessage = refl
+kept Range = refl
+kept CommonFactor = refl
+kept Period = refl
+kept Term = refl
+kept BufferLength = refl
+kept SpareBit = refl
+kept NoneNear = refl
+kept NoCodeword = refl
+
+-- the reply is one of its cases
+pub replied : {r q : Reply} {o : List ℕ} {a : Answer × List ℕ} → r ≡ q → (repliedAs r, o) ≡ a → (repliedAs q, o) ≡ a
+replied {o = o} e f = sym (ap (λ (p : Reply). (repliedAs p, o)) e) ∙ f
+
+pub coded-refused : (q : Refusal) {x : ℤ} {o : List ℕ} {a : Answer × List ℕ} → x ≡ negℤ (pos (numberOf q))
+    → (refused (numberOf q), o) ≡ a → (toZ w32 (ofZ w32 x), o) ≡ codedAs a
+coded-refused q {x} {o} f e = ap (λ (z : ℤ). (z, o)) (ap (λ (z : ℤ). toZ w32 (ofZ w32 z)) f ∙ kept q ∙ sym (minus (numberOf q) (number-pos q))) ∙ ap codedAs e
+
+-- the value returned is the definition's
+settled : (x n v : ℕ) (w old o : List ℕ) → (returned (n ∷ []), o) ≡ settle x (v ∷ []) w old → n ≡ v
+unfolding settle
+settled zero n v w old o e = ap (λ (a : Answer × List ℕ). getD (a .0 .values) 0 0) e
+settled (suc r) n v w old o e =
+    let z : 0 ≡ suc r = ap (λ (a : Answer × List ℕ). a .0 .number) e in absurd (omega arith)
+
+code-of : (n : ℕ) → codeFor 0 (n ∷ []) ≡ pos n
+unfolding codeFor
+code-of n = refl
+
+coded-done : {n : ℕ} {o : List ℕ} {a : Answer × List ℕ} → n ≡ 0 → (returned (n ∷ []), o) ≡ a → (pos 0, o) ≡ codedAs a
+coded-done {n} {o} z e = sym (ap (λ (x : ℤ). (x, o)) (code-of n ∙ ap pos z)) ∙ ap codedAs e
+
+pub encode-done : (sheet message out : List ℕ) {n : ℕ} {o : List ℕ} → (returned (n ∷ []), o) ≡ encodeOf sheet message out
+    → (pos 0, o) ≡ codedAs (encodeOf sheet message out)
+unfolding encodeOf
+encode-done sheet message out {n} e = coded-done (settled _ n 0 _ _ _ e) e
+
+pub read-done : (sheet word out : List ℕ) {n : ℕ} {o : List ℕ} → (returned (n ∷ []), o) ≡ readOf sheet word out
+    → (pos 0, o) ≡ codedAs (readOf sheet word out)
+unfolding readOf
+read-done sheet word out {n} e = coded-done (settled _ n 0 _ _ _ e) e

@@ -1,0 +1,2 @@
+-- Answers of the entries as codes.
+pub mod Coded

@@ -1,0 +1,54 @@
+// The C interface: one entry for each operation, with the answer as one number. include/dunefork.h says it for C.
+ghost use mathlib.Core.Path.{_≡_};
+ghost use lib.IntN.{pos, negℤ};
+ghost use Rattle.document.specs.Answer.{numberOf};
+ghost use Rattle.document.specs.Entry.{encodeOf, readOf};
+ghost use Rattle.dunefork.specs.Codes.{codedAs};
+use document::types::Refusal;
+use document::types::Reply;
+
+// Minus the number of a refusal.
+fn refusal_code(r: Refusal) -> i32
+    ensures { λ x. ⌜ x ≡ negℤ (pos (numberOf r)) ⌝ }
+{
+    match r {
+        Refusal::SheetLength => -1,
+        Refusal::CodeLength => -2,
+        Refusal::FieldDegree => -3,
+        Refusal::Header => -4,
+        Refusal::Representative => -5,
+        Refusal::NoMessage => -6,
+        Refusal::Range => -7,
+        Refusal::CommonFactor => -8,
+        Refusal::Period => -9,
+        Refusal::Term => -10,
+        Refusal::BufferLength => -11,
+        Refusal::SpareBit => -12,
+        Refusal::NoneNear => -13,
+        Refusal::NoCodeword => -14,
+    }
+}
+
+// The codeword of a message into out.
+#[no_mangle]
+pub extern "C" fn dunefork_encode(sheet: &[u8], message: &[u8], out: &mut [u8]) -> i32
+    ensures { λ r. ⌜ (r, now (out .exit)) ≡ codedAs (encodeOf (now (sheet .entry)) (now (message .entry)) (now (out .entry))) ⌝ }
+{
+    let reply = code::encode::encode(sheet, message, out);
+    match reply {
+        Reply::Done(_) => 0,
+        Reply::Refused(r) => refusal_code(r),
+    }
+}
+
+// The message of a codeword into out.
+#[no_mangle]
+pub extern "C" fn dunefork_read(sheet: &[u8], word: &[u8], out: &mut [u8]) -> i32
+    ensures { λ r. ⌜ (r, now (out .exit)) ≡ codedAs (readOf (now (sheet .entry)) (now (word .entry)) (now (out .entry))) ⌝ }
+{
+    let reply = code::read::read(sheet, word, out);
+    match reply {
+        Reply::Done(_) => 0,
+        Reply::Refused(r) => refusal_code(r),
+    }
+}

@@ -2,7 +2,7 @@
 --
 --   judged-record      the record that judging returned is that of the definition
 --   rising             representatives that draw no refusal 5 rise strictly, each the smallest of its coset
---   usable             so an accepted sheet's numbers are those of a code
+--   usable, accepted   so an accepted sheet's numbers are those of a code
 use mathlib.Core.Path.{_≡_, refl, sym, ap, _∙_, subst}
 use mathlib.Core.Bool.{Bool, true, false, not, _||_, _&&_}
 use mathlib.Core.List.{List, [], _∷_}
@@ -111,19 +111,27 @@ conditions sheet q =
     let p₅ = passed 4 (wrongRepresentative sheet) _ (p₄ .1) in
     (p₂ .0, p₃ .0, p₄ .0, p₅ .0)
 
+pub usable-of : (sheet : List ℕ) {n k s : ℕ} → Quiet (judgeConditions sheet) → n ≡ codeLength sheet → k ≡ dimensionOf sheet
+    → s ≡ orderOfTwo n → Usable sheet n k s
+usable-of sheet {n} {k} {s} q a b e =
+    let c = conditions sheet q in
+    let h = headed sheet (c .0) (c .1) (c .2) in
+    record {
+      quiet = q;
+      head = h;
+      n-is = a;
+      k-is = b;
+      s-is = e;
+      k-pos = omega (arith, b, accepted-dimension sheet (accepted-iff sheet .1 q));
+      k-le = omega (arith, a, b, dimension-le sheet);
+      rising = subst (λ (m : ℕ). Rising m (representatives sheet)) (sym a) (rising sheet h (c .3));
+    }
+
 pub usable : (sheet : List ℕ) {n k s i d t l : ℕ} → returned (n ∷ k ∷ s ∷ i ∷ d ∷ t ∷ l ∷ []) ≡ judgeOf sheet → Usable sheet n k s
 usable sheet {n} {k} {s} e =
     let r = judged-record sheet e in
     let v = numbers sheet (r .1) in
-    let c = conditions sheet (r .0) in
-    let h = headed sheet (c .0) (c .1) (c .2) in
-    record {
-      quiet = r .0;
-      head = h;
-      n-is = v .0;
-      k-is = v .1;
-      s-is = v .2 ∙ ap orderOfTwo (sym (v .0));
-      k-pos = omega (arith, v .1, accepted-dimension sheet (sym (ap (λ (a : Answer). a .number) e)));
-      k-le = omega (arith, v .0, v .1, dimension-le sheet);
-      rising = subst (λ (m : ℕ). Rising m (representatives sheet)) (sym (v .0)) (rising sheet h (c .3));
-    }
+    usable-of sheet (r .0) (v .0) (v .1) (v .2 ∙ ap orderOfTwo (sym (v .0)))
+
+pub accepted : (sheet : List ℕ) → judgeOf sheet .number ≡ 0 → Usable sheet (codeLength sheet) (dimensionOf sheet) (orderOfTwo (codeLength sheet))
+accepted sheet e = usable-of sheet (accepted-iff sheet .0 e) refl refl refl

@@ -3,3 +3,4 @@ pub mod Weighing
 pub mod Judging
 pub mod Accepted
 pub mod Entries
+pub mod RoundTrip

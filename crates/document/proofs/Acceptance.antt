@@ -1,5 +1,6 @@
 -- What is accepted, and what a refusal says of the conditions.
 --
+--   judge-number, judge-le      the number of a sheet's answer is that of its first condition, at most 10
 --   quiet-first          no condition of a quiet list holds
 --   accepted-iff         a sheet is accepted exactly when no condition 1 to 10 holds
 --   refused-first        a refusal is the number of a condition that holds, and none before it does
@@ -8,7 +9,7 @@ use mathlib.Core.Path.{_≡_, refl, sym, ap, _∙_, subst}
 use mathlib.Core.Logic.{_↔_, _⊎_, inl, inr}
 use mathlib.Core.Bool.{Bool, true, false, not}
 use mathlib.Core.List.{List, [], _∷_, _++_, flatMap}
-use Prim.Native.Nat.{ℕ, zero, suc, _+_, _<_}
+use Prim.Native.Nat.{ℕ, zero, suc, _+_, _≤_, _<_}
 use native.Mathlib.Omega.{arith}
 use Rattle.field.specs.Search.{upTo}
 use Rattle.document.specs.Answer.{Answer, Conditions, firstOf, settle}
@@ -18,30 +19,31 @@ use Rattle.document.specs.Judge.{sheetConditions, certificateConditions,
 use Rattle.document.proofs.Chain.{Quiet, silent, passing}
 use Rattle.document.proofs.Sane.{settle-number, passed}
 
--- every condition has a number above 0
+-- every condition has a number from 1 to 10
 data Numbered : Conditions → Type 0 where
   none : Numbered []
-  more : {c : ℕ × Bool} {l : Conditions} → 0 < c .0 → Numbered l → Numbered (c ∷ l)
+  more : {c : ℕ × Bool} {l : Conditions} → 0 < c .0 → c .0 ≤ 10 → Numbered l → Numbered (c ∷ l)
 
-number : (r : ℕ) (b : Bool) {l : Conditions} → 0 < r → Numbered l → Numbered ((r, b) ∷ l)
-number r b h p = more {c = (r, b)} h p
+number : (r : ℕ) (b : Bool) {l : Conditions} → 0 < r → r ≤ 10 → Numbered l → Numbered ((r, b) ∷ l)
+number r b h k p = more {c = (r, b)} h k p
 
 numbered-append : {a b : Conditions} → Numbered a → Numbered b → Numbered (a ++ b)
 numbered-append none q = q
-numbered-append (more h p) q = more h (numbered-append p q)
+numbered-append (more h k p) q = more h k (numbered-append p q)
 
 six : (sheet : List ℕ) → Numbered (sheetConditions sheet)
 unfolding sheetConditions
 six sheet =
-    let above : (r : ℕ) → 0 < suc r = λ r. omega arith in
-    number 1 _ (above 0)
-    (number 2 _ (above 1) (number 3 _ (above 2) (number 4 _ (above 3) (number 5 _ (above 4) (number 6 _ (above 5) none)))))
+    number 1 _ (omega arith) (omega arith)
+    (number 2 _ (omega arith) (omega arith)
+    (number 3 _ (omega arith) (omega arith)
+    (number 4 _ (omega arith) (omega arith) (number 5 _ (omega arith) (omega arith) (number 6 _ (omega arith) (omega arith) none)))))
 
 four : (sheet : List ℕ) (i : ℕ) → Numbered (certificateConditions sheet i)
 unfolding certificateConditions
 four sheet i =
-    let above : (r : ℕ) → 0 < suc r = λ r. omega arith in
-    number 7 _ (above 6) (number 8 _ (above 7) (number 9 _ (above 8) (number 10 _ (above 9) none)))
+    number 7 _ (omega arith) (omega arith)
+    (number 8 _ (omega arith) (omega arith) (number 9 _ (omega arith) (omega arith) (number 10 _ (omega arith) (omega arith) none)))
 
 fours : (sheet : List ℕ) (l : List ℕ) → Numbered (flatMap (certificateConditions sheet) l)
 unfolding flatMap
@@ -62,8 +64,8 @@ pub record Drawn (l : Conditions) (r : ℕ) : Type 0 where
 first-is : (l : Conditions) → Numbered l → (Quiet l × (firstOf l ≡ 0)) ⊎ ((0 < firstOf l) × Drawn l (firstOf l))
 unfolding firstOf
 first-is [] none = inl (silent, refl)
-first-is ((r, true) ∷ l) (more h p) = inr (h, record { before = []; after = l; parts = refl; quiet = silent })
-first-is ((r, false) ∷ l) (more h p) =
+first-is ((r, true) ∷ l) (more h k p) = inr (h, record { before = []; after = l; parts = refl; quiet = silent })
+first-is ((r, false) ∷ l) (more h k p) =
     elim (first-is l p) [
       | inl q ↦ inl (passing refl (q .0), q .1)
       | inr q ↦ inr (
@@ -77,7 +79,16 @@ first-is ((r, false) ∷ l) (more h p) =
       )
     ]
 
-judge-number : (sheet : List ℕ) → judgeOf sheet .number ≡ firstOf (judgeConditions sheet)
+first-le : (l : Conditions) → Numbered l → firstOf l ≤ 10
+unfolding firstOf
+first-le [] none = omega arith
+first-le ((r, true) ∷ l) (more h k p) = k
+first-le ((r, false) ∷ l) (more h k p) = first-le l p
+
+pub judge-le : (sheet : List ℕ) → firstOf (judgeConditions sheet) ≤ 10
+judge-le sheet = first-le (judgeConditions sheet) (all-numbered sheet)
+
+pub judge-number : (sheet : List ℕ) → judgeOf sheet .number ≡ firstOf (judgeConditions sheet)
 unfolding judgeOf
 judge-number sheet = settle-number (firstOf (judgeConditions sheet)) (recordOf sheet) [] []
 

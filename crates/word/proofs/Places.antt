@@ -268,7 +268,7 @@ module _ {w : ℕ → ℕ} (W : Weights w) where
           let q : (k * 8 + r) / 8 ≡ k = omega arith in
           place-is l (k * 8 + r) ∙ ap₂ (λ (x y : ℕ). coefficient (W .shift x) (getD l y 0)) p q
 
-  bytes-lt : (n mask k : ℕ) → getD (bytesOf w n mask) k 0 < 256
+  pub bytes-lt : (n mask k : ℕ) → getD (bytesOf w n mask) k 0 < 256
   bytes-lt n mask k = go (le-or-lt (bytesFor n) k)
     where
       go : (bytesFor n ≤ k) ⊎ (k < bytesFor n) → getD (bytesOf w n mask) k 0 < 256

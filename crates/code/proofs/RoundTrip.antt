@@ -1,0 +1,204 @@
+-- Demand 2 in bytes, in the words of the definitions alone: for every accepted sheet.
+--
+--   Message, Word        bytes of the right number, with no spare bit
+--   codewordOf, messageIn      the codeword of a message, and the message in a word, in bytes
+--   encodes              every message is encoded, into codewordOf
+--   codeword-word, codeword-is      which is a word, and a codeword
+--   reads                a codeword is read into messageIn
+--   read-back            reading it gives the message back
+--   codewords-distinct   distinct messages have distinct codewords
+--   message-message, encode-back      a codeword is what encoding makes of the message that reading gives
+--   none-refused         a word that is no codeword is refused with 14,
+--   refused-none         and only such a word is, whatever sheet, word and buffer
+use mathlib.Core.Path.{_≡_, refl, sym, ap, _∙_}
+use mathlib.Core.Bool.{Bool, true, false, not}
+use mathlib.Core.List.{List, [], _∷_, _++_}
+use Prim.Native.Nat.{ℕ, zero, suc, _+_, _-_, _^_, _<_}
+use native.Mathlib.Omega.{arith}
+use lib.ListN.{length, getD}
+use Rattle.field.specs.Field.{orderOfTwo}
+use Rattle.cyclic.proofs.Places.{coefficient-above, coefficient-zero}
+use Rattle.document.specs.Answer.{returned, refused, Conditions, firstOf}
+use Rattle.document.specs.Layout.{wordWeight, messageWeight, bytesFor, maskOf, bytesOf, spare}
+use Rattle.document.specs.Sheet.{codeLength, representatives}
+use Rattle.document.specs.Generator.{isCodeword, encodeMask, messageOf}
+use Rattle.document.specs.Judge.{judgeConditions, dimensionOf, judgeOf}
+use Rattle.document.specs.Entry.{generatorOf, wordOf, encodedWord, encodeOf, readConditions, readOf}
+use Rattle.document.proofs.Sane.{settle-number}
+use Rattle.document.proofs.Theory.{Length}
+use Rattle.document.proofs.Chain.{first-quiet, first-keep}
+use Rattle.document.proofs.Acceptance.{accepted-iff, judge-number, judge-le}
+use Rattle.document.proofs.Demand2.{encode-is-codeword, encode-systematic, encode-lt, message-lt, codeword-is-encoding}
+use Rattle.sheet.proofs.Header.{headed-length}
+use Rattle.word.proofs.Places.{Weights, word-weights, message-weights, mask-lt, spare-clear, bytes-length, bytes-place, bytes-lt, mask-of-bytes, bytes-of-mask}
+use Rattle.codeword.specs.Room.{Usable}
+use Rattle.binary.specs.Bits.{Holds}
+use Rattle.code.proofs.Accepted.{accepted}
+use Rattle.code.proofs.Entries.{encode-done, read-none, read-done}
+
+-- places of n in bytes: as many as they take, and no spare bit
+pub record Placed (weight : ℕ → ℕ) (n : ℕ) (bytes : List ℕ) : Type 0 where
+  pub long : length bytes ≡ bytesFor n
+  pub small : (i : ℕ) → getD bytes i 0 < 256
+  pub clear : spare weight n bytes ≡ false
+
+placed-bytes : {w : ℕ → ℕ} (W : Weights w) (n c : ℕ) → c < 2 ^ n → Placed w n (bytesOf w n c)
+placed-bytes {w} W n c h = record {
+  long = bytes-length w n c;
+  small = bytes-lt W n c;
+  clear = spare-clear w n (bytesOf w n c) (λ i a b. bytes-place W n c i b ∙ coefficient-above h i a);
+}
+
+module _ (sheet : List ℕ) where
+  abbrev n : ℕ
+  n = codeLength sheet
+
+  abbrev k : ℕ
+  k = dimensionOf sheet
+
+  abbrev g : ℕ
+  g = generatorOf sheet
+
+  abbrev pub Message : List ℕ → Type 0
+  Message = Placed messageWeight k
+
+  abbrev pub Word : List ℕ → Type 0
+  Word = Placed wordWeight n
+
+  abbrev pub codewordOf : List ℕ → List ℕ
+  codewordOf message = bytesOf wordWeight n (encodedWord sheet message)
+
+  abbrev pub messageIn : List ℕ → List ℕ
+  messageIn word = bytesOf messageWeight k (messageOf (n - k) (wordOf sheet word))
+
+  module _ (e : judgeOf sheet .number ≡ 0) where
+    u : Usable sheet n k (orderOfTwo n)
+    u = accepted sheet e
+
+    l : Length n
+    l = headed-length (u .head)
+
+    -- ---- the theorems of masks, for this sheet
+    is-codeword : (m : ℕ) → isCodeword (n - k) g (encodeMask (n - k) g m) ≡ true
+    unfolding dimensionOf generatorOf
+    is-codeword m = encode-is-codeword l (representatives sheet) m
+
+    systematic : (m : ℕ) → messageOf (n - k) (encodeMask (n - k) g m) ≡ m
+    unfolding dimensionOf generatorOf
+    systematic m = encode-systematic l (representatives sheet) m
+
+    mask-lt-n : (m : ℕ) → m < 2 ^ k → encodeMask (n - k) g m < 2 ^ n
+    unfolding dimensionOf generatorOf
+    mask-lt-n m h = encode-lt l (representatives sheet) m h
+
+    message-lt-k : (c : ℕ) → c < 2 ^ n → messageOf (n - k) c < 2 ^ k
+    unfolding dimensionOf
+    message-lt-k c h = message-lt l (representatives sheet) c h
+
+    back : (c : ℕ) → isCodeword (n - k) g c ≡ true → encodeMask (n - k) g (messageOf (n - k) c) ≡ c
+    unfolding dimensionOf generatorOf
+    back c h = codeword-is-encoding l (representatives sheet) c h
+
+    encoded-lt : (message : List ℕ) → encodedWord sheet message < 2 ^ n
+    unfolding encodedWord
+    encoded-lt message = mask-lt-n (maskOf messageWeight k message) (mask-lt messageWeight k message)
+
+    -- ---- encoding
+    pub encodes : {message : List ℕ} (out : List ℕ) → Message message → length out ≡ bytesFor n
+        → (returned (0 ∷ []), codewordOf message) ≡ encodeOf sheet message out
+    encodes {message} out m b = encode-done u message out (m .long) b (m .clear) refl
+
+    pub codeword-word : (message : List ℕ) → Word (codewordOf message)
+    codeword-word message = placed-bytes word-weights n (encodedWord sheet message) (encoded-lt message)
+
+    word-is : (message : List ℕ) → wordOf sheet (codewordOf message) ≡ encodedWord sheet message
+    word-is message = mask-of-bytes word-weights n (encodedWord sheet message) (encoded-lt message)
+
+    pub codeword-is : (message : List ℕ) → isCodeword (n - k) g (wordOf sheet (codewordOf message)) ≡ true
+    unfolding encodedWord
+    codeword-is message = ap (isCodeword (n - k) g) (word-is message) ∙ is-codeword (maskOf messageWeight k message)
+
+    -- ---- reading out
+    whole : n - k + k ≡ n
+    whole = omega (arith, u .k-le)
+
+    no-room : Holds 0 []
+    no-room = record { at = λ i. sym (coefficient-zero i) }
+
+    pub reads : {word : List ℕ} (out : List ℕ) → Word word → length out ≡ bytesFor k → isCodeword (n - k) g (wordOf sheet word) ≡ true
+        → (returned (0 ∷ []), messageIn word) ≡ readOf sheet word out
+    reads {word} out w b c =
+        read-done u word out (w .long) b (w .clear) {w = []} {r = false}
+        (record { is = sym (ap not c); clear = λ z. no-room }) refl
+        (record { is = ap (λ (x : ℕ). bytesOf messageWeight k (messageOf (n - k) (maskOf wordWeight x word))) (sym whole) })
+
+    pub message-back : {message : List ℕ} → Message message → messageIn (codewordOf message) ≡ message
+    unfolding encodedWord
+    message-back {message} m =
+        ap (bytesOf messageWeight k) (ap (messageOf (n - k)) (word-is message) ∙ systematic (maskOf messageWeight k message))
+        ∙ sym (bytes-of-mask message-weights k message (m .long) (m .small) (m .clear))
+
+    pub read-back : {message : List ℕ} (out : List ℕ) → Message message → length out ≡ bytesFor k
+        → (returned (0 ∷ []), message) ≡ readOf sheet (codewordOf message) out
+    read-back {message} out m b =
+        ap (λ (x : List ℕ). (returned (0 ∷ []), x)) (sym (message-back m)) ∙ reads out (codeword-word message) b (codeword-is message)
+
+    pub codewords-distinct : {a b : List ℕ} → Message a → Message b → codewordOf a ≡ codewordOf b → a ≡ b
+    codewords-distinct a b q = sym (message-back a) ∙ ap messageIn q ∙ message-back b
+
+    -- ---- and back
+    pub message-message : (word : List ℕ) → Message (messageIn word)
+    message-message word =
+        placed-bytes message-weights k (messageOf (n - k) (wordOf sheet word)) (message-lt-k (wordOf sheet word) (mask-lt wordWeight n word))
+
+    pub encode-back : {word : List ℕ} → Word word → isCodeword (n - k) g (wordOf sheet word) ≡ true → codewordOf (messageIn word) ≡ word
+    unfolding encodedWord
+    encode-back {word} w c =
+        let m : ℕ = messageOf (n - k) (wordOf sheet word) in
+        ap (λ (x : ℕ). bytesOf wordWeight n (encodeMask (n - k) g x))
+        (mask-of-bytes message-weights k m (message-lt-k (wordOf sheet word) (mask-lt wordWeight n word)))
+        ∙ ap (bytesOf wordWeight n) (back (wordOf sheet word) c)
+        ∙ sym (bytes-of-mask word-weights n word (w .long) (w .small) (w .clear))
+
+    pub none-refused : {word : List ℕ} (out : List ℕ) → Word word → length out ≡ bytesFor k → isCodeword (n - k) g (wordOf sheet word) ≡ false
+        → (refused 14, out) ≡ readOf sheet word out
+    none-refused {word} out w b c =
+        read-none u word out (w .long) b (w .clear) {w = []} {r = true}
+        (record { is = sym (ap not c); clear = λ z. no-room }) refl
+
+  -- ---- only such a word
+  abbrev cond : List ℕ → List ℕ → Conditions
+  cond word out = readConditions sheet word out
+
+  last-one : (a b c d : Bool) → firstOf ((11, a) ∷ (11, b) ∷ (12, c) ∷ (14, d) ∷ []) ≡ 14 → d ≡ true
+  unfolding firstOf
+  last-one true b c d e = absurd (omega arith)
+  last-one false true c d e = absurd (omega arith)
+  last-one false false true d e = absurd (omega arith)
+  last-one false false false true e = refl
+  last-one false false false false e = absurd (omega arith)
+
+  not-true : (b : Bool) → not b ≡ true → b ≡ false
+  not-true true e = sym e
+  not-true false e = refl
+
+  read-number : (word out : List ℕ) → readOf sheet word out .0 .number ≡ firstOf (judgeConditions sheet ++ cond word out)
+  unfolding readOf
+  read-number word out = settle-number (firstOf (judgeConditions sheet ++ cond word out)) _ _ _
+
+  conditions-last : (word out : List ℕ) → firstOf (cond word out) ≡ 14 → isCodeword (n - k) g (wordOf sheet word) ≡ false
+  unfolding readConditions
+  conditions-last word out e = not-true _ (last-one _ _ _ _ e)
+
+  pub refused-none : (word out : List ℕ) → readOf sheet word out .0 .number ≡ 14
+      → (judgeOf sheet .number ≡ 0) × (isCodeword (n - k) g (wordOf sheet word) ≡ false)
+  refused-none word out e = go (firstOf (judgeConditions sheet)) refl
+    where
+      go : (r : ℕ) → firstOf (judgeConditions sheet) ≡ r → (judgeOf sheet .number ≡ 0) × (isCodeword (n - k) g (wordOf sheet word) ≡ false)
+      go zero q =
+          let z : judgeOf sheet .number ≡ 0 = judge-number sheet ∙ q in
+          (z, conditions-last word out (sym (first-quiet (cond word out) (accepted-iff sheet .0 z)) ∙ sym (read-number word out) ∙ e))
+      go (suc r) q =
+          let x : firstOf (judgeConditions sheet ++ cond word out) ≡ suc r = first-keep (judgeConditions sheet) (cond word out) r q in
+          let y : readOf sheet word out .0 .number ≡ suc r = read-number word out ∙ x in
+          absurd (omega (arith, judge-le sheet, q, y, e))

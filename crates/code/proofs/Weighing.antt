@@ -23,7 +23,8 @@ use Rattle.document.specs.Answer.{Answer, returned, refused, numberOf, Conditio
 use Rattle.document.specs.Sheet.{certificateCount, certificate}
 use Rattle.document.specs.Certificate.{distance, radius, working}
 use Rattle.document.specs.Judge.{certificateConditions, workingOf, workingCertificate}
-use Rattle.sheet.specs.Stage.{Headed, Checkable, checkOf}
+use Rattle.sheet.specs.Stage.{Headed}
+use Rattle.certificate.specs.Rules.{Checkable, checkOf}
 use Rattle.code.specs.Weigh.{Weighable, weighOf, bestOf, chosen}
 use Rattle.document.proofs.Sane.{settle-number, distance-pos}
 use Rattle.document.proofs.Chain.{Quiet, silent, first-quiet, quiet-append, flat, flat-suc, four-quiet, flat-stop}

@@ -9,10 +9,11 @@ ghost use Rattle.sheet.specs.Stage.{Marks};
 ghost use Rattle.code.specs.Weigh.{Weighable, Recordable, Judgeable, bestOf, weighedAs, weighOf};
 use crate::types::Best;
 use crate::types::Weighed;
+use certificate::check::check;
+use certificate::types::Checked;
 use document::types::Judged;
 use document::types::Record;
 use document::types::Refusal;
-use sheet::certificate::check;
 use sheet::cosets::marks;
 use sheet::cosets::wrong_representative;
 use sheet::sheet::byte;
@@ -21,7 +22,6 @@ use sheet::sheet::wrong_code_length;
 use sheet::sheet::wrong_degree;
 use sheet::sheet::wrong_header;
 use sheet::sheet::wrong_length;
-use sheet::types::Checked;
 
 // The better of the best so far and certificate i with distance e: the later one only where its t is larger. A distance of 0
 // stands for none so far. ((d + 1) / 2 is t + 1.)

@@ -3,14 +3,14 @@
 --   length-1 .. length-pass, code-1 .. code-pass, degree-1, degree-pass, header-1 .. header-pass      one law for each exit
 --   headed          what a sheet that draws none of 2 to 4 satisfies
 --   odd-length      n of a sheet that does not draw 2 is an odd number from 3 to 127
-use mathlib.Core.Path.{_≡_, refl, sym, ap, _∙_}
+use mathlib.Core.Path.{_≡_, refl}
 use mathlib.Core.Logic.{_≢_}
 use mathlib.Core.Bool.{Bool, true, false, _||_, not}
 use mathlib.Core.List.{List}
 use Prim.Native.Nat.{ℕ, _+_, _*_, _%_, _≤_, _<_}
 use native.Mathlib.Omega.{arith}
 use lib.Dec.{eqb, ltb}
-use lib.ListN.{length, getD}
+use lib.ListN.{length}
 use borrow.Author.Tests.{lt-ltb, le-ltb, eq-eqb, ne-eqb, ltb-false, eqb-true, eqb-false}
 use Rattle.field.proofs.Search.{true-ne-false}
 use Rattle.field.specs.Field.{OddLength, orderOfTwo}

@@ -2,6 +2,3 @@
 pub mod Header
 pub mod Marking
 pub mod Listed
-pub mod Ranges
-pub mod Terms
-pub mod Checks

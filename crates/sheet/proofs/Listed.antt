@@ -10,19 +10,19 @@ use mathlib.Core.Path.{_≡_, refl, sym, ap, ap₂, _∙_, subst}
 use mathlib.Core.Logic.{_≢_}
 use mathlib.Core.Bool.{Bool, true, false, not, _||_, _&&_}
 use mathlib.Core.List.{List, [], _∷_, _++_}
-use Prim.Native.Nat.{ℕ, zero, suc, _+_, _-_, _*_, _≤_, _<_}
+use Prim.Native.Nat.{ℕ, suc, _+_, _-_, _≤_, _<_}
 use native.Mathlib.Decide.{ℕ-discrete}
 use native.Mathlib.Numerals.{add-one}
 use native.Mathlib.Omega.{arith}
 use lib.Dec.{leb, ltb}
-use lib.ListN.{length, getD, take, drop, length-drop, length-append}
+use lib.ListN.{length, getD, take, drop, length-drop}
 use lib.Seq.{getD-take, getD-drop, take-suc, length-take-le, take-all}
 use borrow.Author.Tests.{lt-ltb, le-ltb, le-leb, lt-leb}
-use Rattle.field.specs.Search.{upTo, some, keep, total}
+use Rattle.field.specs.Search.{upTo, some}
 use Rattle.field.specs.Field.{OddLength, orderOfTwo}
-use Rattle.field.proofs.Search.{some-of, some-false, some-append, keep-suc, total-z, total-s, total-ext}
-use Rattle.document.specs.Sheet.{byteAt, codeLength, representativeCount, representatives, certificateCount}
-use Rattle.document.specs.Coset.{inCoset, smallest, inSet, definingSet}
+use Rattle.field.proofs.Search.{some-of, some-false, some-append}
+use Rattle.document.specs.Sheet.{byteAt, codeLength, representativeCount, representatives}
+use Rattle.document.specs.Coset.{inCoset, smallest, inSet}
 use Rattle.document.specs.Judge.{wrongRepresentative}
 use Rattle.sheet.specs.Stage.{Headed, Marks, Marked, Found, bit}
 

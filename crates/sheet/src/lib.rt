@@ -1,5 +1,3 @@
-// A code sheet taken apart: its header, its defining set, its certificates.
-pub mod certificate;
+// A code sheet taken apart: its header and its defining set.
 pub mod cosets;
 pub mod sheet;
-pub mod types;

@@ -3,7 +3,7 @@ use borrow.Author.Needs.{needs}
 use native.Mathlib.Omega.{arith}
 use mathlib.Core.Path.{_≡_, sym, ap, _∙_, subst}
 use Prim.Native.Nat.{ℕ, _-_, _≤_}
-use Rattle.sheet.specs.Stage.{checkedAs, distanceIn}
+use Rattle.certificate.specs.Rules.{checkedAs, distanceIn}
 use Rattle.code.proofs.Weighing.{Weighing, weighing-start, weighing-check, weighing-stop, weighing-more, weighing-end}
 use Rattle.code.proofs.judge.weigh.Statement.{statement}
 use Rattle.code.proofs.judge.weigh.Tie as tie

@@ -1,0 +1,3 @@
+// A certificate against its rules.
+pub mod check;
+pub mod types;

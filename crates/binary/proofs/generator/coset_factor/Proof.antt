@@ -46,7 +46,7 @@ twice-requires-2 c κs = let v = c .before .before .before .before .before .loop
 multiply-requires-2 : tie.Need-multiply-requires-2 Inv-loop μ-loop
 multiply-requires-2 c κs =
     let v = c .before .before .before .before .before .before .loop .inv in let h = stepping-root (v .0) (v .3) in
-    (degree-of (v .0), h, h)
+    (degree-of (v .0), omega (arith, h, root-lt (v .0)), omega (arith, h, root-lt (v .0)))
 
 add-m : tie.Need-add-m Inv-loop μ-loop
 add-m c = let v = c .before .before .before .before .before .before .before .loop .inv in omega (arith, v .3 .most, v .0 .small)

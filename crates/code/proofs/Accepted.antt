@@ -2,6 +2,7 @@
 --
 --   judged-record      the record that judging returned is that of the definition
 --   rising             representatives that draw no refusal 5 rise strictly, each the smallest of its coset
+--   conditions         no condition of it holds
 --   usable, accepted   so an accepted sheet's numbers are those of a code
 use mathlib.Core.Path.{_≡_, refl, sym, ap, _∙_, subst}
 use mathlib.Core.Bool.{Bool, true, false, not, _||_, _&&_}
@@ -100,7 +101,7 @@ dimension-le : (sheet : List ℕ) → dimensionOf sheet ≤ codeLength sheet
 unfolding dimensionOf dimension
 dimension-le sheet = omega arith
 
-conditions : (sheet : List ℕ) → Quiet (judgeConditions sheet)
+pub conditions : (sheet : List ℕ) → Quiet (judgeConditions sheet)
     → (wrongCodeLength sheet ≡ false) × (wrongDegree sheet ≡ false) × (wrongHeader sheet ≡ false) × (wrongRepresentative sheet ≡ false)
 unfolding judgeConditions sheetConditions
 conditions sheet q =

@@ -4,3 +4,4 @@ pub mod Judging
 pub mod Accepted
 pub mod Entries
 pub mod RoundTrip
+pub mod Cards

@@ -1,4 +1,5 @@
 // The entries.
+pub mod card;
 pub mod encode;
 pub mod judge;
 pub mod read;

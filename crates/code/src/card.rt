@@ -1,0 +1,61 @@
+// The listing of a sheet.
+ghost use mathlib.Core.Path.{_≡_};
+ghost use mathlib.Core.List.{[], _∷_};
+ghost use Prim.Native.Nat.{_≤_};
+ghost use lib.ListN.{length};
+ghost use Rattle.document.specs.Answer.{returned};
+ghost use Rattle.document.specs.Card.{cardOf};
+ghost use Rattle.document.specs.Sheet.{representatives};
+ghost use Rattle.sheet.specs.Stage.{Marks};
+ghost use Rattle.codeword.specs.Room.{Usable};
+ghost use Rattle.code.specs.Weigh.{Markable, Recorded};
+use crate::judge::judge;
+use codeword::test::sheet_generator;
+use document::answer::refusal_number;
+use document::types::Judged;
+use listing::page::write_accepted;
+use listing::page::write_refused;
+use sheet::cosets::wrong_representative;
+use sheet::sheet::byte;
+
+// D of an accepted sheet marked in place of zeros.
+fn mark_set(sheet: &[u8], n: usize, s: usize, zeros: &mut [u8])
+    requires { ⌜ Markable (now sheet) n s (now zeros) ⌝ }
+    ensures { λ _. ⌜ Marks n (representatives (now (sheet .entry))) (now (zeros .exit)) ⌝ }
+{
+    wrong_representative(sheet, n, s, byte(sheet, 3), zeros);
+}
+
+// The listing of an accepted sheet with its record's numbers.
+fn card_accepted(
+    sheet: &[u8],
+    n: usize,
+    k: usize,
+    s: usize,
+    working: usize,
+    t: usize,
+    out: &mut [u8],
+) -> usize
+    requires { ⌜ Usable (now sheet) n k s × Recorded (now sheet) working t × (1024 ≤ length (now out)) ⌝ }
+    ensures { λ r. ⌜ (returned (r ∷ []), now (out .exit)) ≡ cardOf (now (sheet .entry)) (now (out .entry)) ⌝ }
+{
+    let mut zeros = [0u8; 128];
+    let mut g = [0u8; 144];
+    let mut p = [0u16; 16];
+    let mut w = [0u8; 144];
+    g[0] = 1;
+    mark_set(sheet, n, s, &mut zeros);
+    sheet_generator(sheet, n, k, s, &mut g, &mut p, &mut w);
+    write_accepted(sheet, n, k, s, working, t, &zeros, &g, out)
+}
+
+// The listing of any sheet into a lent buffer that holds every listing; its length.
+pub fn card(sheet: &[u8], out: &mut [u8; 1024]) -> usize
+    ensures { λ r. ⌜ (returned (r ∷ []), now (out .exit)) ≡ cardOf (now (sheet .entry)) (now (out .entry)) ⌝ }
+{
+    let judged = judge(sheet);
+    match judged {
+        Judged::Refused(r) => write_refused(refusal_number(r), out),
+        Judged::Accepted(a) => card_accepted(sheet, a.n, a.k, a.s, a.working, a.t, out),
+    }
+}

@@ -1,9 +1,8 @@
 // The listing of a sheet.
 ghost use mathlib.Core.Path.{_≡_};
 ghost use mathlib.Core.List.{[], _∷_};
-ghost use Prim.Native.Nat.{_≤_};
 ghost use lib.ListN.{length};
-ghost use Rattle.document.specs.Answer.{returned};
+ghost use Rattle.document.specs.Answer.{returned, repliedAs};
 ghost use Rattle.document.specs.Card.{cardOf};
 ghost use Rattle.document.specs.Sheet.{representatives};
 ghost use Rattle.sheet.specs.Stage.{Marks};
@@ -13,6 +12,8 @@ use crate::judge::judge;
 use codeword::test::sheet_generator;
 use document::answer::refusal_number;
 use document::types::Judged;
+use document::types::Refusal;
+use document::types::Reply;
 use listing::page::write_accepted;
 use listing::page::write_refused;
 use sheet::cosets::wrong_representative;
@@ -36,7 +37,7 @@ fn card_accepted(
     t: usize,
     out: &mut [u8],
 ) -> usize
-    requires { ⌜ Usable (now sheet) n k s × Recorded (now sheet) working t × (1024 ≤ length (now out)) ⌝ }
+    requires { ⌜ Usable (now sheet) n k s × Recorded (now sheet) working t × (length (now out) ≡ 1024) ⌝ }
     ensures { λ r. ⌜ (returned (r ∷ []), now (out .exit)) ≡ cardOf (now (sheet .entry)) (now (out .entry)) ⌝ }
 {
     let mut zeros = [0u8; 128];
@@ -49,13 +50,24 @@ fn card_accepted(
     write_accepted(sheet, n, k, s, working, t, &zeros, &g, out)
 }
 
-// The listing of any sheet into a lent buffer that holds every listing; its length.
-pub fn card(sheet: &[u8], out: &mut [u8; 1024]) -> usize
-    ensures { λ r. ⌜ (returned (r ∷ []), now (out .exit)) ≡ cardOf (now (sheet .entry)) (now (out .entry)) ⌝ }
+// The listing of any sheet, refused ones too, into a lent buffer of 1,024 bytes, which holds every listing; its length.
+pub fn card(sheet: &[u8], out: &mut [u8]) -> Reply
+    ensures { λ r. ⌜ (repliedAs r, now (out .exit)) ≡ cardOf (now (sheet .entry)) (now (out .entry)) ⌝ }
 {
+    if out.len() != 1024 {
+        return Reply::Refused(Refusal::BufferLength);
+    }
     let judged = judge(sheet);
     match judged {
-        Judged::Refused(r) => write_refused(refusal_number(r), out),
-        Judged::Accepted(a) => card_accepted(sheet, a.n, a.k, a.s, a.working, a.t, out),
+        Judged::Refused(r) => Reply::Done(write_refused(refusal_number(r), out)),
+        Judged::Accepted(a) => Reply::Done(card_accepted(
+            sheet,
+            a.n,
+            a.k,
+            a.s,
+            a.working,
+            a.t,
+            out,
+        )),
     }
 }

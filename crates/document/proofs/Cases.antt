@@ -30,7 +30,7 @@ use Rattle.document.specs.Judge.{workingCertificate}
 use Rattle.document.specs.Judge.{recordOf, judgeOf}
 use Rattle.document.specs.Entry.{generatorOf, radiusOf, encodeConditions, encodedWord, encodeOf, readConditions, readOf}
 use Rattle.document.specs.Entry.{nearestMessage, decodedWord, decodeConditions, decodeOf}
-use Rattle.document.specs.Card.{decimalIn, decimal, codeLine, zerosLine, generatorLine, certificateLine, radiusLine}
+use Rattle.document.specs.Card.{decimalIn, decimal, codeLine, zerosLine, generatorLine, certificateLine, radiusLine, cardConditions, cardOf}
 use Rattle.document.specs.Card.{refusedLine, acceptedLines, listingFor, listing}
 
 -- all definitions, for the lemmas that compute
@@ -203,6 +203,7 @@ near =
     ∷ answered (decodeOf sheetH (10 ∷ []) (0xAA ∷ []))  -- one of the output is no matter
     ∷ answered (encodeOf sheetH (0x12 ∷ []) (0xAA ∷ []))  -- a spare bit of a message
     ∷ answered (encodeOf (oneCertificate 9 (0 ∷ []) 0 1 3 1 1) (1 ∷ []) (0xAA ∷ 0xBB ∷ []))  -- k = 8 takes one byte, n = 9 two
+    ∷ answered (cardOf sheetH (0xAA ∷ []))  -- a buffer too short for the listing
     ∷ []
 
 near-hold : near
@@ -229,8 +230,9 @@ near-hold : near
     ∷ (0 ∷ 1 ∷ 11 ∷ [])
     ∷ (12 ∷ 0xAA ∷ [])
     ∷ (0 ∷ 0 ∷ 3 ∷ 0 ∷ [])
+    ∷ (11 ∷ 0xAA ∷ [])
     ∷ []
-unfolding near record-of answered twoCertificates certificateOf sheetH oneCertificate sheetOf definitions
+unfolding near record-of answered twoCertificates certificateOf sheetH oneCertificate sheetOf cardOf cardConditions definitions
 near-hold = refl
 
 -- ---- the listing

@@ -3,15 +3,15 @@
 --   decimal n           a number in decimal digits
 --   codeLine .. radiusLine, refusedLine      the lines
 --   listing sheet       the text
---   cardOf sheet out    the listing's length, and what a lent buffer that holds it is afterwards
+--   cardOf sheet out    the listing's length, and what a lent buffer of 1,024 bytes is afterwards
 use mathlib.Core.List.{List, [], _∷_, _++_, map, flatMap}
 use Prim.Native.Nat.{ℕ, zero, suc, _+_, _/_, _%_}
-use lib.Dec.{ltb}
-use mathlib.Core.Bool.{true, false}
+use lib.Dec.{eqb, ltb}
+use mathlib.Core.Bool.{true, false, not}
 use lib.ListN.{length, drop}
 use Rattle.field.specs.Search.{upTo}
 use Rattle.field.specs.Field.{orderOfTwo}
-use Rattle.document.specs.Answer.{Answer, returned, firstOf}
+use Rattle.document.specs.Answer.{Answer, Conditions, firstOf, settle}
 use Rattle.document.specs.Sheet.{codeLength, representatives, certificateCount, certificate}
 use Rattle.document.specs.Coset.{definingSet}
 use Rattle.document.specs.Generator.{generatorPoly}
@@ -78,6 +78,11 @@ listingFor (suc r) sheet = refusedLine (suc r)
 unfoldable pub listing : List ℕ → List ℕ
 listing sheet = listingFor (firstOf (judgeConditions sheet)) sheet
 
--- The listing, and what stood after its end. The lent buffer has 1,024 bytes, more than any listing takes.
+-- The lent buffer has 1,024 bytes, more than any listing takes. 11: an "output buffer hasn't its exact length"
+unfoldable pub cardConditions : List ℕ → Conditions
+cardConditions out = (11, not (eqb (length out) 1024)) ∷ []
+
+-- The listing's length; and in the buffer the listing, and what stood after its end.
 unfoldable pub cardOf : List ℕ → List ℕ → Answer × List ℕ
-cardOf sheet out = (returned (length (listing sheet) ∷ []), listing sheet ++ drop (length (listing sheet)) out)
+cardOf sheet out =
+    settle (firstOf (cardConditions out)) (length (listing sheet) ∷ []) (listing sheet ++ drop (length (listing sheet)) out) out

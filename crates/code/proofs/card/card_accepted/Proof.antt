@@ -36,13 +36,13 @@ slice-aggregate-write-accepted-2 : tie.Need-slice-aggregate-write-accepted-2
 slice-aggregate-write-accepted-2 c = search needs
 
 write-accepted-requires : tie.Need-write-accepted-requires
-write-accepted-requires c κs = let r = c .before .before .before .before .before .before .before .before .before .before .before .before .before .before .before .pre in (listable (r .0) (r .1) (c .before .before .before .before .before .before .before .before .before .before .before .mark-set .ensures) (c .before .before .before .before .before .before .sheet-generator .ensures) (omega (arith, r .0 .n-is, r .0 .head .most, c .before .before .before .before .before .before .sheet-generator .kept .1 .1 .1 .1 .0)), r .2)
+write-accepted-requires c κs = let r = c .before .before .before .before .before .before .before .before .before .before .before .before .before .before .before .pre in (listable (r .0) (r .1) (c .before .before .before .before .before .before .before .before .before .before .before .mark-set .ensures) (c .before .before .before .before .before .before .sheet-generator .ensures) (omega (arith, r .0 .n-is, r .0 .head .most, c .before .before .before .before .before .before .sheet-generator .kept .1 .1 .1 .1 .0)), omega (arith, r .2))
 
 same-length : tie.Need-same-length
 same-length c = search needs
 
 returns : tie.Need-returns
-returns c = card-accepted _ (quiet-first (c .before .before .before .before .before .before .before .before .before .before .before .before .before .before .before .before .before .before .pre .0 .quiet)) (c .before .before .write-accepted .ensures)
+returns c = let r = c .before .before .before .before .before .before .before .before .before .before .before .before .before .before .before .before .before .before .pre in card-accepted _ (r .2) (quiet-first (r .0 .quiet)) (c .before .before .write-accepted .ensures)
 
 pub card-accepted-spec : {M : Type 1} → statement M
 card-accepted-spec =

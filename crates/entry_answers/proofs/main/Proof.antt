@@ -1,8 +1,12 @@
--- `sheet_answers::main` meets its contract: the rounds left go down to 0.
+-- `entry_answers::main` meets its contract: the rounds left go down to 0.
 use borrow.Author.Needs.{needs}
+use native.Mathlib.Omega.{arith}
 use Prim.Native.Nat.{_≤_}
-use Rattle.sheet_answers.proofs.main.Statement.{statement}
-use Rattle.sheet_answers.proofs.main.Tie as tie
+use Rattle.entry_answers.proofs.main.Statement.{statement}
+use Rattle.entry_answers.proofs.main.Tie as tie
+use Rattle.entry_answers.proofs.main.Reads as reads
+use Rattle.entry_answers.proofs.main.Lts as lts
+use Rattle.entry_answers.proofs.answer_call.Reads as answer-call-reads
 
 abbrev Inv-loop : tie.InvT-loop
 Inv-loop left₀ left = left ≤ 10000
@@ -13,8 +17,8 @@ abbrev μ-loop : tie.MeasureT-loop
 loop-holds : tie.Need-loop-holds Inv-loop μ-loop
 loop-holds c = search needs
 
-sheet-line-requires : tie.Need-sheet-line-requires Inv-loop μ-loop
-sheet-line-requires c κs = search needs
+answer-call-requires : tie.Need-answer-call-requires Inv-loop μ-loop
+answer-call-requires c κs = search needs
 
 returns : tie.Need-returns Inv-loop μ-loop
 returns c = search needs
@@ -38,7 +42,7 @@ main-spec =
     Inv-loop
     μ-loop
     loop-holds
-    sheet-line-requires
+    answer-call-requires
     returns
     sub-left
     loop-less

@@ -1,11 +1,12 @@
 #!/usr/bin/env python3
-# The sheets that the program crates/sheet_answers is handed, and the answers that it must write, made without any of its code:
+# The calls of entries that the program crates/entry_answers makes, and the answers that it must write, made without any of its
+# code:
 #
-#     tools/sheet_answers.py sheets  > crates/sheet_answers/stdin
-#     tools/sheet_answers.py answers > crates/sheet_answers/stdout
+#     tools/entry_answers.py calls   > crates/entry_answers/stdin
+#     tools/entry_answers.py answers > crates/entry_answers/stdout
 #
-# A sheet is handed over as a byte with its length and 80 bytes, of which the first so many count. Polynomials over two
-# elements are sets of exponents. An answer is 'accepted n k s working d t terms' or 'refused number'.
+# For each sheet there are judge's answer, 'accepted n k s working d t terms' or 'refused number', the listing that card gives,
+# and what encode and read reply and leave in the buffer. Polynomials over two elements are sets of exponents, words numbers.
 import sys
 from math import gcd
 
@@ -189,8 +190,109 @@ def drawn(count):
         yield sheet(n, representatives, *certificates)
 
 
+# ---- words
+def primitive(s):
+    # the smallest mask of degree s modulo which x has order 2^s - 1
+    for mask in range(2 ** s, 2 ** (s + 1)):
+        x, order = 2 % 2 ** s, 1
+        while x != 1 and order < 2 ** s:
+            x = x * 2 ^ (mask if x >> (s - 1) else 0)
+            order += 1
+        if order == 2 ** s - 1:
+            return mask
+
+
+def generator(n, zeros):
+    # the coefficients of the product of x + alpha^i, by tables of powers
+    s = len(coset(1, n))
+    mask, powers = primitive(s), [1]
+    while len(powers) < 2 ** s - 1:
+        powers.append(powers[-1] * 2 ^ (mask if powers[-1] >> (s - 1) else 0))
+    logs = {p: i for i, p in enumerate(powers)}
+    product = [1]
+    for i in zeros:
+        root = i * (2 ** s - 1) // n
+        times = [powers[(logs[a] + root) % (2 ** s - 1)] if a else 0 for a in product]
+        product = [a ^ b for a, b in zip([0] + product, times + [0])]
+    assert set(product) <= {0, 1}
+    return sum(a << i for i, a in enumerate(product))
+
+
+def remainder(word, g):
+    while word.bit_length() >= g.bit_length():
+        word ^= g << (word.bit_length() - g.bit_length())
+    return word
+
+
+def encoded(message, g):
+    checks = g.bit_length() - 1
+    return message << checks | remainder(message << checks, g)
+
+
+def in_bytes(mask, places):
+    return mask.to_bytes((places + 7) // 8, 'little')
+
+
+def parts(sheet):
+    n, count, certificates = sheet[2], sheet[3], sheet[6]
+    zeros = sorted(set().union(*[coset(r, n) for r in sheet[10:10 + count]]))
+    return n, zeros, [sheet[10 + count + 8 * c:18 + count + 8 * c] for c in range(certificates)]
+
+
+def listing(sheet):
+    told = answer(sheet).split()
+    if told[0] == 'refused':
+        return ['refused ' + told[1]]
+    n, zeros, certificates = parts(sheet)
+    g = generator(n, zeros)
+    lines = ['code %d %d %s' % (n, n - len(zeros), told[3])]
+    lines.append(' '.join(['zeros'] + [str(i) for i in zeros]))
+    lines.append('generator ' + ''.join(str(g >> i & 1) for i in range(len(zeros) + 1)))
+    for c, bytes_of in enumerate(certificates):
+        _, d, terms = certificate_answer(n, set(zeros), bytes_of)
+        lines.append('cert %d terms %d distance %d' % (c, terms, d))
+    lines.append('radius %s from cert %s' % (told[6], told[4]))
+    return lines
+
+
+# The calls: judge and card for every sheet (0), encode (1) and read (2) with an input and a buffer of some length, which holds
+# AA before each call; and what is to be answered.
+def calls(sheet):
+    told = answer(sheet).split()
+    yield 0, b'', 0, '\n'.join([' '.join(told)] + listing(sheet))
+    if told[0] == 'refused':
+        yield 1, bytes(3), 2, 'encode %s aaaa' % told[1]
+        yield 2, bytes(2), 3, 'read %s aaaaaa' % told[1]
+        return
+    n, zeros, _ = parts(sheet)
+    k, g = n - len(zeros), generator(n, zeros)
+    a, b = (k + 7) // 8, (n + 7) // 8
+    for message in (0, 1, 2 ** k - 1, sum((37 * i + 5) % 256 << 8 * i for i in range(16)) % 2 ** k):
+        word = encoded(message, g)
+        yield 1, in_bytes(message, k), b, 'encode 0 ' + in_bytes(word, n).hex()
+        yield 2, in_bytes(word, n), a, 'read 0 ' + in_bytes(message, k).hex()
+        for place in {0, 7 * k % n, n - 1}:
+            wrong = word ^ 1 << place
+            if remainder(wrong, g):
+                yield 2, in_bytes(wrong, n), a, 'read 14 ' + 'aa' * a
+            else:
+                yield 2, in_bytes(wrong, n), a, 'read 0 ' + in_bytes(wrong >> len(zeros), k).hex()
+    if k % 8:
+        yield 1, in_bytes(message | 1 << k, k), b, 'encode 12 ' + 'aa' * b
+        yield 1, in_bytes(message | 1 << 8 * a - 1, k), b + 1, 'encode 11 ' + 'aa' * (b + 1)
+    yield 2, in_bytes(word | 1 << n, n), a, 'read 12 ' + 'aa' * a
+    yield 2, in_bytes(word | 1 << 8 * b - 1, n), a + 1, 'read 11 ' + 'aa' * (a + 1)
+    yield 1, in_bytes(message, k) + b'\0', b, 'encode 11 ' + 'aa' * b
+    yield 1, in_bytes(message, k), b - 1, 'encode 11 ' + 'aa' * (b - 1)
+    yield 1, b'', b, 'encode 11 ' + 'aa' * b
+    yield 2, in_bytes(word, n)[1:], a, 'read 11 ' + 'aa' * a
+    yield 2, in_bytes(word, n) + b'\0', a, 'read 11 ' + 'aa' * a
+
+
 SHEETS = [s for s in list(known()) + list(drawn(400)) if len(s) <= 80]
-if sys.argv[1] == 'sheets':
-    sys.stdout.buffer.write(b''.join(bytes([len(s)] + s + [0] * (80 - len(s))) for s in SHEETS))
-else:
-    print('\n'.join(answer(s) for s in SHEETS))
+for s in SHEETS:
+    for call, given, room, told in calls(s):
+        if sys.argv[1] == 'calls':
+            sys.stdout.buffer.write(bytes([call, len(s), len(given), room] + s) + given)
+        else:
+            print(told)

@@ -134,6 +134,11 @@ def known():
     yield [9] + h[1:9]
     yield changed(h, 0, 20)
     yield h + [0]
+    # 74 bytes are the most: 32 representatives and four certificates
+    yield sheet(127, range(32), *[certificate(1, 1, 3, 1, 1)] * 4)
+    yield sheet(127, range(33), *[certificate(1, 1, 3, 1, 1)] * 4)
+    for length in (74, 75, 80):
+        yield [length] + h[1:] + [0] * (length - len(h))
     for n in (0, 1, 2, 6, 19, 101, 126, 128, 129, 255):
         yield changed(h, 2, n)
     for place in range(3, 10):
@@ -289,7 +294,7 @@ def calls(sheet):
     yield 2, in_bytes(word, n) + b'\0', a, 'read 11 ' + 'aa' * a
 
 
-SHEETS = [s for s in list(known()) + list(drawn(400)) if len(s) <= 80]
+SHEETS = list(known()) + list(drawn(400))
 for s in SHEETS:
     for call, given, room, told in calls(s):
         if sys.argv[1] == 'calls':

@@ -19,5 +19,9 @@ int main(void) {
     printf("encode %d: nine bytes are no sheet\n", (int)r);
     r = dunefork_encode(sheet, sizeof sheet, NULL, 0, word, sizeof word);
     printf("encode %d: no message\n", (int)r);
+    r = dunefork_read(NULL, 0, word, sizeof word, back, sizeof back);
+    printf("read %d: no sheet\n", (int)r);
+    r = dunefork_read(sheet, sizeof sheet, word, sizeof word, NULL, 0);
+    printf("read %d: no buffer\n", (int)r);
     return 0;
 }

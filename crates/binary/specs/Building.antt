@@ -1,19 +1,23 @@
 -- The generator in the making. No entry's contract cites this file.
 --
+--   Apart n r reps         the coset of r and D have no member in common
 --   Rising n reps          representatives below n, strictly rising, each the smallest of its coset
 --   Lengths n s            an odd length with its s, at most 12
 --   Building n d reps g w  g holds the generator of reps, of degree d, and w holds 0
 --   Joined n r d e g w g′ w′      so for one representative more
 use mathlib.Core.Path.{_≡_}
-use mathlib.Core.Bool.{true}
-use mathlib.Core.List.{List, _∷_}
+use mathlib.Core.Bool.{true, false}
+use mathlib.Core.List.{List, [], _∷_}
 use Prim.Native.Nat.{ℕ, _≤_, _<_}
 use lib.ListN.{length, getD}
 use Rattle.field.specs.Field.{OddLength, orderOfTwo}
-use Rattle.document.specs.Coset.{smallest, definingSet}
+use Rattle.document.specs.Coset.{smallest, inSet, definingSet}
 use Rattle.document.specs.Generator.{generator}
-use Rattle.document.proofs.Join.{Apart}
 use Rattle.binary.specs.Bits.{Holds}
+
+-- no member of the coset of r is in D
+abbrev pub Apart : ℕ → ℕ → List ℕ → Type 0
+Apart n r reps = (i : ℕ) → inSet n (r ∷ []) i ≡ true → inSet n reps i ≡ false
 
 pub record Rising (n : ℕ) (reps : List ℕ) : Type 0 where
   pub below : (i : ℕ) → i < length reps → getD reps i 0 < n

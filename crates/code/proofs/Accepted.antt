@@ -16,28 +16,24 @@ use lib.Seq.{length-take-le}
 use borrow.Author.Tests.{ltb-true, le-leb}
 use Rattle.field.specs.Field.{orderOfTwo}
 use Rattle.field.proofs.Search.{true-ne-false, some-none}
-use Rattle.document.specs.Answer.{Answer, returned, settle}
+use Rattle.document.specs.Answer.{Answer, returned}
 use Rattle.document.specs.Sheet.{codeLength, representativeCount, representatives}
 use Rattle.document.specs.Coset.{smallest, dimension}
 use Rattle.document.specs.Judge.{wrongLength, wrongCodeLength, wrongDegree, wrongHeader, wrongRepresentative}
 use Rattle.document.specs.Judge.{dimensionOf, sheetConditions, judgeConditions, recordOf, judgeOf}
 use Rattle.document.proofs.Sane.{passed, accepted-dimension}
 use Rattle.document.proofs.Chain.{Quiet}
-use Rattle.document.proofs.Acceptance.{quiet-first, accepted-iff}
+use Rattle.document.proofs.Acceptance.{quiet-first, accepted-iff, accepted-record}
 use Rattle.sheet.specs.Stage.{Headed}
 use Rattle.sheet.proofs.Header.{headed}
 use Rattle.binary.specs.Building.{Rising}
 use Rattle.codeword.specs.Room.{Usable}
 
 -- ---- the record
-accepted-is : (sheet : List ℕ) → Quiet (judgeConditions sheet) → judgeOf sheet ≡ returned (recordOf sheet)
-unfolding judgeOf settle
-accepted-is sheet q = ap (λ (r : ℕ). settle r (recordOf sheet) [] [] .0) (quiet-first q)
-
 pub judged-record : (sheet : List ℕ) {v : List ℕ} → returned v ≡ judgeOf sheet → Quiet (judgeConditions sheet) × (v ≡ recordOf sheet)
 judged-record sheet e =
-    let q = accepted-iff sheet .0 (sym (ap (λ (a : Answer). a .number) e)) in
-    (q, ap (λ (a : Answer). a .values) (e ∙ accepted-is sheet q))
+    let z : judgeOf sheet .number ≡ 0 = sym (ap (λ (a : Answer). a .number) e) in
+    (accepted-iff sheet .0 z, ap (λ (a : Answer). a .values) (e ∙ accepted-record sheet z))
 
 -- ---- the representatives
 abbrev rep : List ℕ → ℕ → ℕ
@@ -118,7 +114,7 @@ usable-of sheet {n} {k} {s} q a b e =
     let c = conditions sheet q in
     let h = headed sheet (c .0) (c .1) (c .2) in
     record {
-      quiet = q;
+      quiet = quiet-first q;
       head = h;
       n-is = a;
       k-is = b;

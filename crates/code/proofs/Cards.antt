@@ -19,14 +19,14 @@ use Rattle.document.specs.Sheet.{byteAt, representativeCount, representatives}
 use Rattle.document.specs.Generator.{generator}
 use Rattle.document.specs.Judge.{judgeConditions, recordOf, judgeOf}
 use Rattle.document.specs.Entry.{generatorOf}
-use Rattle.document.proofs.Acceptance.{judge-number}
+use Rattle.document.proofs.Acceptance.{judge-number, quiet-of}
 use Rattle.sheet.specs.Stage.{Marks, Found}
 use Rattle.binary.specs.Bits.{Holds}
 use Rattle.codeword.specs.Room.{Usable, Generated}
 use Rattle.listing.specs.Accepted.{Listable}
 use Rattle.listing.proofs.Cards.{listable-of}
-use Rattle.code.specs.Weigh.{Markable, Recorded}
-use Rattle.code.proofs.Judging.{no-marks, marks-at}
+use Rattle.code.specs.Record.{Markable, Recorded}
+use Rattle.judging.proofs.Judging.{no-marks, marks-at}
 use Rattle.code.proofs.Accepted.{judged-record, conditions}
 
 pub number-le : (q : Refusal) → numberOf q ≤ 14
@@ -61,7 +61,7 @@ count-of sheet e = e
 pub markable : {sheet : List ℕ} {n k s : ℕ} → Usable sheet n k s → Markable sheet n s (replicate 128 0)
 markable {sheet} {n} u = record {
   head = u .head;
-  right = conditions sheet (u .quiet) .3;
+  right = conditions sheet (quiet-of sheet (u .quiet)) .3;
   n-is = u .n-is;
   s-is = u .s-is;
   none = no-marks n 128 (omega (arith, u .n-is, u .head .most));
@@ -79,4 +79,4 @@ held {sheet} u {g} h = subst (λ (m : ℕ). Holds (generator m (representatives 
 pub listable : {sheet zeros g w : List ℕ} {n k s working t m : ℕ} → Usable sheet n k s → Recorded sheet working t
     → Marks n (representatives sheet) zeros → Generated sheet n m g w → n < length g → Listable sheet n k s working t zeros g
 listable {sheet} u r z c h =
-    listable-of sheet (u .head) (u .quiet) (u .n-is) (u .k-is) (u .s-is) (r .working-is) (r .t-is) z (held u (c .holds)) h
+    listable-of sheet (u .head) (quiet-of sheet (u .quiet)) (u .n-is) (u .k-is) (u .s-is) (r .working-is) (r .t-is) z (held u (c .holds)) h

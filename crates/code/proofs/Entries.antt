@@ -20,8 +20,9 @@ use Rattle.document.specs.Generator.{isCodeword, messageOf}
 use Rattle.document.specs.Judge.{judgeConditions, dimensionOf, recordOf, judgeOf}
 use Rattle.document.specs.Entry.{wrongSize, generatorOf, wordOf, encodeConditions, encodedWord, encodeOf, readConditions, readOf}
 use Rattle.document.proofs.Sane.{settle-number}
+use Rattle.document.proofs.Acceptance.{quiet-of}
 use Rattle.document.proofs.Chain.{Quiet, first-true, first-false, first-quiet, first-keep}
-use Rattle.code.proofs.Weighing.{number-pos}
+use Rattle.judging.proofs.Weighing.{number-pos}
 use Rattle.codeword.specs.Room.{Usable, Tested, MessageRead}
 
 -- ---- any entry
@@ -75,7 +76,7 @@ module _ {sheet : List ℕ} {n k s : ℕ} (u : Usable sheet n k s) (message out 
   pub encode-message : length message ≢ bytesFor k → (refused 11, out) ≡ encodeOf sheet message out
   unfolding encodeOf encodeConditions
   encode-message h =
-      entry-refused sheet (encodeConditions sheet message out) (0 ∷ []) written out 10 (u .quiet)
+      entry-refused sheet (encodeConditions sheet message out) (0 ∷ []) written out 10 (quiet-of sheet (u .quiet))
       (first-true (11, wrongSize (dimensionOf sheet) message) _
       (size-wrong (dimensionOf sheet) message (λ e. h (e ∙ ap bytesFor (sym (u .k-is))))))
 
@@ -86,7 +87,7 @@ module _ {sheet : List ℕ} {n k s : ℕ} (u : Usable sheet n k s) (message out 
     pub encode-out : length out ≢ bytesFor n → (refused 11, out) ≡ encodeOf sheet message out
     unfolding encodeOf encodeConditions
     encode-out h =
-        entry-refused sheet (encodeConditions sheet message out) (0 ∷ []) written out 10 (u .quiet)
+        entry-refused sheet (encodeConditions sheet message out) (0 ∷ []) written out 10 (quiet-of sheet (u .quiet))
         (first-false (11, wrongSize (dimensionOf sheet) message) _ one
         ∙ first-true (11, wrongSize (codeLength sheet) out) _
         (size-wrong (codeLength sheet) out (λ e. h (e ∙ ap bytesFor (sym (u .n-is))))))
@@ -98,7 +99,7 @@ module _ {sheet : List ℕ} {n k s : ℕ} (u : Usable sheet n k s) (message out 
       pub encode-spare : spare messageWeight k message ≡ true → (refused 12, out) ≡ encodeOf sheet message out
       unfolding encodeOf encodeConditions
       encode-spare h =
-          entry-refused sheet (encodeConditions sheet message out) (0 ∷ []) written out 11 (u .quiet)
+          entry-refused sheet (encodeConditions sheet message out) (0 ∷ []) written out 11 (quiet-of sheet (u .quiet))
           (first-false (11, wrongSize (dimensionOf sheet) message) _ one
           ∙ first-false (11, wrongSize (codeLength sheet) out) _ two
           ∙ first-true (12, spare messageWeight (dimensionOf sheet) message) _
@@ -108,7 +109,7 @@ module _ {sheet : List ℕ} {n k s : ℕ} (u : Usable sheet n k s) (message out 
           → (returned (0 ∷ []), out′) ≡ encodeOf sheet message out
       unfolding encodeOf encodeConditions
       encode-done h e =
-          entry-done sheet (encodeConditions sheet message out) (0 ∷ []) written out (u .quiet)
+          entry-done sheet (encodeConditions sheet message out) (0 ∷ []) written out (quiet-of sheet (u .quiet))
           (first-false (11, wrongSize (dimensionOf sheet) message) _ one
           ∙ first-false (11, wrongSize (codeLength sheet) out) _ two
           ∙ first-false (12, spare messageWeight (dimensionOf sheet) message) []
@@ -134,7 +135,7 @@ module _ {sheet : List ℕ} {n k s : ℕ} (u : Usable sheet n k s) (word out : L
   pub read-word : length word ≢ bytesFor n → (refused 11, out) ≡ readOf sheet word out
   unfolding readOf readConditions
   read-word h =
-      entry-refused sheet (readConditions sheet word out) (0 ∷ []) message out 10 (u .quiet)
+      entry-refused sheet (readConditions sheet word out) (0 ∷ []) message out 10 (quiet-of sheet (u .quiet))
       (first-true (11, wrongSize (codeLength sheet) word) _
       (size-wrong (codeLength sheet) word (λ e. h (e ∙ ap bytesFor (sym (u .n-is))))))
 
@@ -145,7 +146,7 @@ module _ {sheet : List ℕ} {n k s : ℕ} (u : Usable sheet n k s) (word out : L
     pub read-out : length out ≢ bytesFor k → (refused 11, out) ≡ readOf sheet word out
     unfolding readOf readConditions
     read-out h =
-        entry-refused sheet (readConditions sheet word out) (0 ∷ []) message out 10 (u .quiet)
+        entry-refused sheet (readConditions sheet word out) (0 ∷ []) message out 10 (quiet-of sheet (u .quiet))
         (first-false (11, wrongSize (codeLength sheet) word) _ first
         ∙ first-true (11, wrongSize (dimensionOf sheet) out) _
         (size-wrong (dimensionOf sheet) out (λ e. h (e ∙ ap bytesFor (sym (u .k-is))))))
@@ -157,7 +158,7 @@ module _ {sheet : List ℕ} {n k s : ℕ} (u : Usable sheet n k s) (word out : L
       pub read-spare : spare wordWeight n word ≡ true → (refused 12, out) ≡ readOf sheet word out
       unfolding readOf readConditions
       read-spare h =
-          entry-refused sheet (readConditions sheet word out) (0 ∷ []) message out 11 (u .quiet)
+          entry-refused sheet (readConditions sheet word out) (0 ∷ []) message out 11 (quiet-of sheet (u .quiet))
           (first-false (11, wrongSize (codeLength sheet) word) _ first
           ∙ first-false (11, wrongSize (dimensionOf sheet) out) _ second
           ∙ first-true (12, spare wordWeight (codeLength sheet) word) _
@@ -170,7 +171,7 @@ module _ {sheet : List ℕ} {n k s : ℕ} (u : Usable sheet n k s) (word out : L
         pub read-none : {w : List ℕ} {r : Bool} → Tested sheet word w r → r ≡ true → (refused 14, out) ≡ readOf sheet word out
         unfolding readOf readConditions
         read-none t e =
-            entry-refused sheet (readConditions sheet word out) (0 ∷ []) message out 13 (u .quiet)
+            entry-refused sheet (readConditions sheet word out) (0 ∷ []) message out 13 (quiet-of sheet (u .quiet))
             (first-false (11, wrongSize (codeLength sheet) word) _ first
             ∙ first-false (11, wrongSize (dimensionOf sheet) out) _ second
             ∙ first-false (12, spare wordWeight (codeLength sheet) word) _ third ∙ first-true (14, none) _ (sym (t .is) ∙ e))
@@ -179,7 +180,7 @@ module _ {sheet : List ℕ} {n k s : ℕ} (u : Usable sheet n k s) (word out : L
             → (returned (0 ∷ []), out′) ≡ readOf sheet word out
         unfolding readOf readConditions
         read-done t e m =
-            entry-done sheet (readConditions sheet word out) (0 ∷ []) message out (u .quiet)
+            entry-done sheet (readConditions sheet word out) (0 ∷ []) message out (quiet-of sheet (u .quiet))
             (first-false (11, wrongSize (codeLength sheet) word) _ first
             ∙ first-false (11, wrongSize (dimensionOf sheet) out) _ second
             ∙ first-false (12, spare wordWeight (codeLength sheet) word) _ third ∙ first-false (14, none) [] (sym (t .is) ∙ e) ∙ first-nil)

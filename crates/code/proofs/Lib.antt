@@ -1,6 +1,4 @@
 -- From the parts to the entries.
-pub mod Weighing
-pub mod Judging
 pub mod Accepted
 pub mod Entries
 pub mod RoundTrip

@@ -5,32 +5,40 @@
 --   encodes              every message is encoded, into codewordOf
 --   codeword-word, codeword-is      which is a word, and a codeword
 --   reads                a codeword is read into messageIn
+--   codeword-place       message bit i stands in place n - k + i
+--   codeword-multiple, codeword-set, codeword-representatives      what a codeword is, three times
 --   read-back            reading it gives the message back
 --   codewords-distinct   distinct messages have distinct codewords
 --   message-message, encode-back      a codeword is what encoding makes of the message that reading gives
 --   none-refused         a word that is no codeword is refused with 14,
 --   refused-none         and only such a word is, whatever sheet, word and buffer
 use mathlib.Core.Path.{_≡_, refl, sym, ap, _∙_}
+use mathlib.Core.Logic.{_↔_}
 use mathlib.Core.Bool.{Bool, true, false, not}
 use mathlib.Core.List.{List, [], _∷_, _++_}
-use Prim.Native.Nat.{ℕ, zero, suc, _+_, _-_, _^_, _<_}
+use Prim.Native.Nat.{ℕ, zero, suc, _+_, _-_, _%_, _^_, _<_}
 use native.Mathlib.Omega.{arith}
 use lib.ListN.{length, getD}
-use Rattle.field.specs.Field.{orderOfTwo}
+use lib.Pow.{shr-shr}
+use borrow.Author.Tests.{eqb-true}
+use Rattle.algebra.proofs.Lists.{All}
+use Rattle.field.specs.Mask.{coefficient, clmul}
+use Rattle.field.specs.Field.{fieldPower, orderOfTwo, α}
 use Rattle.cyclic.proofs.Places.{coefficient-above, coefficient-zero}
 use Rattle.document.specs.Answer.{returned, refused, Conditions, firstOf}
-use Rattle.document.specs.Layout.{wordWeight, messageWeight, bytesFor, maskOf, bytesOf, spare}
+use Rattle.document.specs.Layout.{wordWeight, messageWeight, bytesFor, place, maskOf, bytesOf, spare}
+use Rattle.document.specs.Coset.{inSet}
 use Rattle.document.specs.Sheet.{codeLength, representatives}
-use Rattle.document.specs.Generator.{isCodeword, encodeMask, messageOf}
+use Rattle.document.specs.Generator.{valueAt, isCodeword, encodeMask, messageOf}
 use Rattle.document.specs.Judge.{judgeConditions, dimensionOf, judgeOf}
-use Rattle.document.specs.Entry.{generatorOf, wordOf, encodedWord, encodeOf, readConditions, readOf}
+use Rattle.document.specs.Entry.{wrongSize, generatorOf, wordOf, encodedWord, encodeOf, readConditions, readOf}
 use Rattle.document.proofs.Sane.{settle-number}
 use Rattle.document.proofs.Theory.{Length}
 use Rattle.document.proofs.Chain.{first-quiet, first-keep}
 use Rattle.document.proofs.Acceptance.{accepted-iff, judge-number, judge-le}
-use Rattle.document.proofs.Demand2.{encode-is-codeword, encode-systematic, encode-lt, message-lt, codeword-is-encoding}
+use Rattle.document.proofs.Demand2.{multiple-iff, defining-iff, representatives-iff, encode-is-codeword, encode-systematic, encode-lt, message-lt, codeword-is-encoding}
 use Rattle.sheet.proofs.Header.{headed-length}
-use Rattle.word.proofs.Places.{Weights, word-weights, message-weights, mask-lt, spare-clear, bytes-length, bytes-place, bytes-lt, mask-of-bytes, bytes-of-mask}
+use Rattle.word.proofs.Places.{Weights, word-weights, message-weights, mask-lt, mask-coefficient, for-le, spare-clear, bytes-length, bytes-place, bytes-lt, mask-of-bytes, bytes-of-mask}
 use Rattle.codeword.specs.Room.{Usable}
 use Rattle.binary.specs.Bits.{Holds}
 use Rattle.code.proofs.Accepted.{accepted}
@@ -56,6 +64,9 @@ module _ (sheet : List ℕ) where
   abbrev k : ℕ
   k = dimensionOf sheet
 
+  abbrev s : ℕ
+  s = orderOfTwo n
+
   abbrev g : ℕ
   g = generatorOf sheet
 
@@ -72,7 +83,7 @@ module _ (sheet : List ℕ) where
   messageIn word = bytesOf messageWeight k (messageOf (n - k) (wordOf sheet word))
 
   module _ (e : judgeOf sheet .number ≡ 0) where
-    u : Usable sheet n k (orderOfTwo n)
+    u : Usable sheet n k s
     u = accepted sheet e
 
     l : Length n
@@ -117,6 +128,28 @@ module _ (sheet : List ℕ) where
     pub codeword-is : (message : List ℕ) → isCodeword (n - k) g (wordOf sheet (codewordOf message)) ≡ true
     unfolding encodedWord
     codeword-is message = ap (isCodeword (n - k) g) (word-is message) ∙ is-codeword (maskOf messageWeight k message)
+
+    -- message bit i stands in place n - k + i
+    pub codeword-place : (message : List ℕ) (i : ℕ) → i < k
+        → place wordWeight (codewordOf message) (n - k + i) ≡ place messageWeight message i
+    unfolding encodedWord messageOf
+    codeword-place message i h =
+        bytes-place word-weights n (encodedWord sheet message) (n - k + i) (omega (arith, u .k-le, for-le n))
+        ∙ sym (ap (λ (x : ℕ). x % 2) (shr-shr (encodedWord sheet message) (n - k) i))
+        ∙ ap (coefficient i) (systematic (maskOf messageWeight k message)) ∙ mask-coefficient messageWeight k message i h
+
+    -- ---- what a codeword is
+    pub codeword-multiple : (c : ℕ) → (isCodeword (n - k) g c ≡ true) ↔ ((q : ℕ) × (c ≡ clmul g q))
+    unfolding dimensionOf generatorOf
+    codeword-multiple c = multiple-iff l (representatives sheet) c
+
+    pub codeword-set : (c : ℕ) → (isCodeword (n - k) g c ≡ true) ↔ ((i : ℕ) → inSet n (representatives sheet) i ≡ true → valueAt s (fieldPower s (α s n) i) c ≡ 0)
+    unfolding dimensionOf generatorOf
+    codeword-set c = defining-iff l (representatives sheet) c
+
+    pub codeword-representatives : (c : ℕ) → (isCodeword (n - k) g c ≡ true) ↔ All (λ r. valueAt s (fieldPower s (α s n) r) c ≡ 0) (representatives sheet)
+    unfolding dimensionOf generatorOf
+    codeword-representatives c = representatives-iff l (representatives sheet) c
 
     -- ---- reading out
     whole : n - k + k ≡ n
@@ -170,13 +203,18 @@ module _ (sheet : List ℕ) where
   abbrev cond : List ℕ → List ℕ → Conditions
   cond word out = readConditions sheet word out
 
-  last-one : (a b c d : Bool) → firstOf ((11, a) ∷ (11, b) ∷ (12, c) ∷ (14, d) ∷ []) ≡ 14 → d ≡ true
+  last-one : (a b c d : Bool) → firstOf ((11, a) ∷ (11, b) ∷ (12, c) ∷ (14, d) ∷ []) ≡ 14
+      → (a ≡ false) × (b ≡ false) × (c ≡ false) × (d ≡ true)
   unfolding firstOf
   last-one true b c d e = absurd (omega arith)
   last-one false true c d e = absurd (omega arith)
   last-one false false true d e = absurd (omega arith)
-  last-one false false false true e = refl
+  last-one false false false true e = (refl, refl, refl, refl)
   last-one false false false false e = absurd (omega arith)
+
+  not-false : (b : Bool) → not b ≡ false → b ≡ true
+  not-false true e = refl
+  not-false false e = sym e
 
   not-true : (b : Bool) → not b ≡ true → b ≡ false
   not-true true e = sym e
@@ -186,18 +224,33 @@ module _ (sheet : List ℕ) where
   unfolding readOf
   read-number word out = settle-number (firstOf (judgeConditions sheet ++ cond word out)) _ _ _
 
-  conditions-last : (word out : List ℕ) → firstOf (cond word out) ≡ 14 → isCodeword (n - k) g (wordOf sheet word) ≡ false
-  unfolding readConditions
-  conditions-last word out e = not-true _ (last-one _ _ _ _ e)
+  -- what a word that is refused with 14 is
+  pub record NoCodeword (word out : List ℕ) : Type 0 where
+    pub accepted-sheet : judgeOf sheet .number ≡ 0
+    pub word-long : length word ≡ bytesFor n
+    pub out-long : length out ≡ bytesFor k
+    pub clear : spare wordWeight n word ≡ false
+    pub none : isCodeword (n - k) g (wordOf sheet word) ≡ false
 
-  pub refused-none : (word out : List ℕ) → readOf sheet word out .0 .number ≡ 14
-      → (judgeOf sheet .number ≡ 0) × (isCodeword (n - k) g (wordOf sheet word) ≡ false)
+  conditions-last : (word out : List ℕ) → judgeOf sheet .number ≡ 0 → firstOf (cond word out) ≡ 14 → NoCodeword word out
+  unfolding readConditions
+  conditions-last word out z e =
+      let r = last-one (wrongSize n word) (wrongSize k out) (spare wordWeight n word) _ e in
+      record {
+        accepted-sheet = z;
+        word-long = eqb-true (length word) (bytesFor n) (not-false _ (r .0));
+        out-long = eqb-true (length out) (bytesFor k) (not-false _ (r .1));
+        clear = r .2;
+        none = not-true _ (r .3);
+      }
+
+  pub refused-none : (word out : List ℕ) → readOf sheet word out .0 .number ≡ 14 → NoCodeword word out
   refused-none word out e = go (firstOf (judgeConditions sheet)) refl
     where
-      go : (r : ℕ) → firstOf (judgeConditions sheet) ≡ r → (judgeOf sheet .number ≡ 0) × (isCodeword (n - k) g (wordOf sheet word) ≡ false)
+      go : (r : ℕ) → firstOf (judgeConditions sheet) ≡ r → NoCodeword word out
       go zero q =
           let z : judgeOf sheet .number ≡ 0 = judge-number sheet ∙ q in
-          (z, conditions-last word out (sym (first-quiet (cond word out) (accepted-iff sheet .0 z)) ∙ sym (read-number word out) ∙ e))
+          conditions-last word out z (sym (first-quiet (cond word out) (accepted-iff sheet .0 z)) ∙ sym (read-number word out) ∙ e)
       go (suc r) q =
           let x : firstOf (judgeConditions sheet ++ cond word out) ≡ suc r = first-keep (judgeConditions sheet) (cond word out) r q in
           let y : readOf sheet word out .0 .number ≡ suc r = read-number word out ∙ x in

@@ -1,1 +1,1 @@
-pub mod Weigh
+pub mod Record

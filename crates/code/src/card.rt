@@ -7,7 +7,7 @@ ghost use Rattle.document.specs.Card.{cardOf};
 ghost use Rattle.document.specs.Sheet.{representatives};
 ghost use Rattle.sheet.specs.Stage.{Marks};
 ghost use Rattle.codeword.specs.Room.{Usable};
-ghost use Rattle.code.specs.Weigh.{Markable, Recorded};
+ghost use Rattle.code.specs.Record.{Markable, Recorded};
 use crate::judge::judge;
 use codeword::test::sheet_generator;
 use document::answer::refusal_number;

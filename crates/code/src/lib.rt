@@ -3,4 +3,3 @@ pub mod card;
 pub mod encode;
 pub mod judge;
 pub mod read;
-mod types;

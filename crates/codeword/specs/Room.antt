@@ -13,17 +13,17 @@ use Prim.Native.Nat.{ℕ, _+_, _-_, _/_, _^_, _≤_, _<_}
 use lib.ListN.{length}
 use Rattle.field.specs.Field.{orderOfTwo}
 use Rattle.document.specs.Sheet.{codeLength, representatives}
+use Rattle.document.specs.Answer.{firstOf}
 use Rattle.document.specs.Layout.{wordWeight, messageWeight, bytesFor, maskOf, bytesOf}
 use Rattle.document.specs.Generator.{isCodeword, encodeMask, messageOf}
 use Rattle.document.specs.Judge.{judgeConditions, dimensionOf}
 use Rattle.document.specs.Entry.{generatorOf, wordOf}
-use Rattle.document.proofs.Chain.{Quiet}
 use Rattle.sheet.specs.Stage.{Headed}
 use Rattle.binary.specs.Bits.{Holds}
 use Rattle.binary.specs.Building.{Rising}
 
 pub record Usable (sheet : List ℕ) (n k s : ℕ) : Type 0 where
-  pub quiet : Quiet (judgeConditions sheet)
+  pub quiet : firstOf (judgeConditions sheet) ≡ 0
   pub head : Headed sheet
   pub n-is : n ≡ codeLength sheet
   pub k-is : k ≡ dimensionOf sheet

@@ -1,22 +1,25 @@
 -- What is accepted, and what a refusal says of the conditions.
 --
 --   judge-number, judge-le      the number of a sheet's answer is that of its first condition, at most 10
---   quiet-first          no condition of a quiet list holds
+--   quiet-first, quiet-of      no condition of a quiet list holds, and back
 --   accepted-iff         a sheet is accepted exactly when no condition 1 to 10 holds
 --   refused-first        a refusal is the number of a condition that holds, and none before it does
+--   accepted-rules       that is, none of 1 to 6 does, and every certificate meets rules 1 to 4
+--   accepted-record      and then judging returns the record, with the working certificate's distance
 --   certificate-iff      a certificate draws none of 7 to 10 exactly when it meets rules 1 to 4
 use mathlib.Core.Path.{_≡_, refl, sym, ap, _∙_, subst}
 use mathlib.Core.Logic.{_↔_, _⊎_, inl, inr}
 use mathlib.Core.Bool.{Bool, true, false, not}
 use mathlib.Core.List.{List, [], _∷_, _++_, flatMap}
 use Prim.Native.Nat.{ℕ, zero, suc, _+_, _≤_, _<_}
+use native.Mathlib.Decide.{ℕ-discrete}
 use native.Mathlib.Omega.{arith}
 use Rattle.field.specs.Search.{upTo}
-use Rattle.document.specs.Answer.{Answer, Conditions, firstOf, settle}
+use Rattle.document.specs.Answer.{returned, Conditions, firstOf, settle}
 use Rattle.document.specs.Sheet.{codeLength, representatives, certificateCount, certificate}
 use Rattle.document.specs.Certificate.{rule1, rule2, rule3, rule4}
 use Rattle.document.specs.Judge.{sheetConditions, certificateConditions, judgeConditions, recordOf, judgeOf}
-use Rattle.document.proofs.Chain.{Quiet, silent, passing}
+use Rattle.document.proofs.Chain.{Quiet, silent, passing, quiet-append, flat, flat-suc, four-quiet}
 use Rattle.document.proofs.Sane.{settle-number, passed}
 
 -- every condition has a number from 1 to 10
@@ -106,6 +109,9 @@ accepted-iff sheet = (
   λ q. judge-number sheet ∙ quiet-first q,
 )
 
+pub quiet-of : (sheet : List ℕ) → firstOf (judgeConditions sheet) ≡ 0 → Quiet (judgeConditions sheet)
+quiet-of sheet e = accepted-iff sheet .0 (judge-number sheet ∙ e)
+
 pub refused-first : (sheet : List ℕ) → 0 < judgeOf sheet .number → Drawn (judgeConditions sheet) (judgeOf sheet .number)
 refused-first sheet h =
     elim (first-is (judgeConditions sheet) (all-numbered sheet)) [
@@ -141,3 +147,49 @@ certificate-iff sheet i = (
   λ q. quiet-first (passing (ap not (q .range))
       (passing (ap not (q .factor)) (passing (ap not (q .period)) (passing (ap not (q .terms)) silent)))),
 )
+
+-- ---- the sheet and its certificates
+quiet-parts : (a : Conditions) {b : Conditions} → Quiet (a ++ b) → Quiet a × Quiet b
+quiet-parts [] q = (silent, q)
+quiet-parts (c ∷ a) (passing e q) = let r = quiet-parts a q in (passing e (r .0), r .1)
+
+flat-at : (sheet : List ℕ) (n : ℕ) → Quiet (flat sheet n) → (i : ℕ) → i < n → Quiet (certificateConditions sheet i)
+flat-at sheet zero q i h = absurd (omega arith)
+flat-at sheet (suc n) q i h =
+    let r = quiet-parts (flat sheet n) (subst Quiet (flat-suc sheet n) q) in
+    elim (ℕ-discrete i n) [
+      | yes e ↦ subst (λ (k : ℕ). Quiet (certificateConditions sheet k)) (sym e) (r .1)
+      | no e ↦ flat-at sheet n (r .0) i (omega arith)
+    ]
+
+flat-of : (sheet : List ℕ) (n : ℕ) → ((i : ℕ) → i < n → Quiet (certificateConditions sheet i)) → Quiet (flat sheet n)
+unfolding upTo flatMap
+flat-of sheet zero h = silent
+flat-of sheet (suc n) h =
+    subst Quiet (sym (flat-suc sheet n)) (quiet-append (flat-of sheet n (λ i l. h i (omega arith))) (h n (omega arith)))
+
+pub certificate-quiet : (sheet : List ℕ) (i : ℕ) → Quiet (certificateConditions sheet i) ↔ Rules sheet i
+certificate-quiet sheet i =
+    let w = certificate-iff sheet i in
+    (λ q. w .0 (quiet-first q), λ r. four-quiet sheet i (w .1 r))
+
+pub quiet-certificate : (sheet : List ℕ) → Quiet (judgeConditions sheet) → (i : ℕ) → i < certificateCount sheet
+    → Quiet (certificateConditions sheet i)
+unfolding judgeConditions
+quiet-certificate sheet q = flat-at sheet (certificateCount sheet) (quiet-parts (sheetConditions sheet) q .1)
+
+pub accepted-rules : (sheet : List ℕ)
+    → (judgeOf sheet .number ≡ 0) ↔ (Quiet (sheetConditions sheet) × ((i : ℕ) → i < certificateCount sheet → Rules sheet i))
+unfolding judgeConditions
+accepted-rules sheet =
+    let w = accepted-iff sheet in (
+      λ e.
+          (quiet-parts (sheetConditions sheet) (w .0 e) .0, λ i h. certificate-quiet sheet i .0 (quiet-certificate sheet (w .0 e) i h)),
+      λ p. w .1
+          (quiet-append (p .0) (flat-of sheet (certificateCount sheet) (λ i h. certificate-quiet sheet i .1 (p .1 i h)))),
+    )
+
+-- d, t and the number of terms in it are those of the working certificate
+pub accepted-record : (sheet : List ℕ) → judgeOf sheet .number ≡ 0 → judgeOf sheet ≡ returned (recordOf sheet)
+unfolding judgeOf settle
+accepted-record sheet e = ap (λ (r : ℕ). settle r (recordOf sheet) [] [] .0) (sym (judge-number sheet) ∙ e)

@@ -191,6 +191,7 @@ near =
     ∷ record-of (oneCertificate 7 (0 ∷ 1 ∷ []) 0 1 31 8 1)  -- L is not above v: d is 1
     ∷ record-of (oneCertificate 15 (1 ∷ []) 1 3 3 1 1)  -- z and n have a common factor
     ∷ record-of (oneCertificate 7 (1 ∷ 0 ∷ []) 1 1 3 1 2)  -- representatives falling
+    ∷ record-of (oneCertificate 7 (3 ∷ 1 ∷ 0 ∷ []) 1 1 3 1 2)  -- and k = 0: 5 before 6
     ∷ record-of (sheetOf 7 (1 ∷ []) (certificateOf 1 1 3 2 1 2) 19 1)  -- f = 515 has degree 9
     ∷ record-of (oneCertificate 7 (1 ∷ []) 1 1 6 1 2)  -- f has no constant term
     ∷ record-of (oneCertificate 15 (1 ∷ []) 1 1 19 1 1)  -- the period of f is 15
@@ -217,6 +218,7 @@ near-hold : near
     ∷ (10 ∷ [])
     ∷ (0 ∷ 7 ∷ 3 ∷ 3 ∷ 0 ∷ 1 ∷ 0 ∷ 1 ∷ [])
     ∷ (7 ∷ [])
+    ∷ (5 ∷ [])
     ∷ (5 ∷ [])
     ∷ (7 ∷ [])
     ∷ (7 ∷ [])

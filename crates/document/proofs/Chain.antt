@@ -4,24 +4,21 @@
 --   Quiet, first-quiet, quiet-append, first-keep      the first of two lists of conditions
 --   flat-suc, four-quiet, flat-stop      the conditions of the certificates in turn
 --   working-is, First, first-one, first-new, first-same      the working certificate among one more
-use mathlib.Core.Path.{_≡_, refl, sym, ap, ap₂, _∙_, subst}
-use mathlib.Core.Logic.{_≢_}
+use mathlib.Core.Path.{_≡_, refl, sym, ap, _∙_, subst}
 use mathlib.Core.Bool.{Bool, true, false}
 use mathlib.Core.List.{List, [], _∷_, _++_, flatMap, append-assoc, append-nil}
-use Prim.Native.Nat.{ℕ, zero, suc, _+_, _-_, _*_, _/_, _≤_, _<_}
-use native.Mathlib.Decide.{ℕ-discrete, decLt}
-use native.Mathlib.Numerals.{add-one}
+use Prim.Native.Nat.{ℕ, zero, suc, _+_, _-_, _≤_, _<_}
+use native.Mathlib.Decide.{ℕ-discrete}
 use native.Mathlib.Omega.{arith}
-use lib.Dec.{leb, ltb}
-use borrow.Author.Tests.{le-leb, lt-leb, lt-ltb, le-ltb, leb-true}
-use Rattle.field.specs.Search.{least, upTo, every}
-use Rattle.field.proofs.Search.{Least, least-is, least-unique, every-of, every-at, upTo-suc}
+use lib.Dec.{leb}
+use borrow.Author.Tests.{le-leb, lt-leb}
+use Rattle.field.specs.Search.{upTo, every}
+use Rattle.field.proofs.Search.{least-is, least-unique, every-of, upTo-suc}
 use Rattle.poly.proofs.Coprime.{every-not}
-use Rattle.document.specs.Answer.{Answer, returned, refused, numberOf, Conditions, firstOf, settle}
-use Rattle.document.specs.Sheet.{codeLength, representatives, representativeCount, certificateCount, Certificate, certificate}
-use Rattle.document.specs.Certificate.{distance, radius, working}
-use Rattle.document.specs.Judge.{certificateConditions, workingOf, workingCertificate}
-use Rattle.document.proofs.Sane.{passed, settle-number, distance-pos}
+use Rattle.document.specs.Answer.{Conditions, firstOf}
+use Rattle.document.specs.Certificate.{working}
+use Rattle.document.specs.Judge.{certificateConditions}
+use Rattle.document.proofs.Sane.{passed}
 
 -- ---- conditions
 pub data Quiet : Conditions → Type 0 where

@@ -104,7 +104,7 @@ module _ {n : ℕ} (l : Length n) (reps : List ℕ) where
   C = codeOf l reps
 
   -- the value at α^i
-  abbrev valueAtα : ℕ → ℕ → ℕ
+  abbrev pub valueAtα : ℕ → ℕ → ℕ
   valueAtα i c = valueAt s (fieldPower s (α s n) i) c
 
   value-α : (i c : ℕ) → (valueAtα i c ≡ 0) ↔ (value (GF (degree l)) (pow (GF (degree l)) (C .α) i) c ≡ GF (degree l) .𝟘)

@@ -10,19 +10,19 @@
 --   accepted-dimension  an accepted sheet has 1 ≤ k
 use mathlib.Core.Path.{_≡_, refl, sym, ap, ap₂, _∙_, subst}
 use mathlib.Core.Logic.{_≢_}
-use mathlib.Core.Bool.{Bool, true, false, _||_}
-use mathlib.Core.List.{List, [], _∷_, _++_, map}
-use Prim.Native.Nat.{ℕ, zero, suc, _+_, _-_, _*_, _/_, _%_, _^_, _≤_, _<_}
+use mathlib.Core.Bool.{Bool, true, false}
+use mathlib.Core.List.{List, [], _∷_, map}
+use Prim.Native.Nat.{ℕ, zero, suc, _-_, _≤_, _<_}
 use native.Mathlib.Nat.{sub-zero}
 use native.Mathlib.Decide.{decLt, ℕ-discrete}
 use native.Mathlib.Omega.{arith}
-use lib.Dec.{eqb, leb}
+use lib.Dec.{leb}
 use lib.ListN.{length, getD, take, drop, length-map, List·getD-eq-default}
 use borrow.Author.Tests.{eqb-false, leb-true, le-leb}
-use Rattle.field.specs.Search.{least, upTo, keep, some, every, total}
+use Rattle.field.specs.Search.{least, upTo, some, every, total}
 use Rattle.field.specs.Mask.{_⊕_}
 use Rattle.field.specs.Field.{fieldMultiply, fieldPower, orderOfTwo, α}
-use Rattle.field.proofs.Search.{Least, least-is, least-most, keep-none, every-at, every-of}
+use Rattle.field.proofs.Search.{least-is, least-most, keep-none, every-at, every-of}
 use Rattle.field.proofs.Search.{length-upTo, length-keep}
 use Rattle.field.proofs.Xor.{⊕-zero-r, ⊕-zero-l}
 use Rattle.document.specs.Answer.{Conditions, firstOf, settle}

@@ -68,5 +68,5 @@ judgedAs (Accepted r) = returned (recordAs r)
 judgedAs (NotAccepted r) = refused (numberOf r)
 
 abbrev pub repliedAs : Reply → Answer
-repliedAs (Done changed) = returned (changed ∷ [])
+repliedAs (Done x) = returned (x ∷ [])
 repliedAs (Refused r) = refused (numberOf r)

@@ -1,7 +1,8 @@
 -- The listing that `linkcard` writes, byte by byte (ASCII).
 --
 --   decimal n           a number in decimal digits
---   codeLine .. radiusLine, refusedLine      the lines
+--   codeWord .. refusedWord      the words
+--   codeLine .. radiusLine, refusedLine      the lines; codeText, certificateText, radiusText: by the numbers in them
 --   listing sheet       the text
 --   cardOf sheet out    the listing's length, and what a lent buffer of 1,024 bytes is afterwards
 use mathlib.Core.List.{List, [], _∷_, _++_, map, flatMap}
@@ -33,38 +34,67 @@ spaced x = 32 ∷ decimal x
 abbrev pub newline : List ℕ
 newline = 10 ∷ []
 
--- "code", n, k, s
+-- ---- the words
+abbrev pub codeWord : List ℕ
+codeWord = 99 ∷ 111 ∷ 100 ∷ 101 ∷ []  -- code
+
+abbrev pub zerosWord : List ℕ
+zerosWord = 122 ∷ 101 ∷ 114 ∷ 111 ∷ 115 ∷ []  -- zeros
+
+abbrev pub generatorWord : List ℕ
+generatorWord = 103 ∷ 101 ∷ 110 ∷ 101 ∷ 114 ∷ 97 ∷ 116 ∷ 111 ∷ 114 ∷ 32 ∷ []  -- generator, and a space
+
+abbrev pub certWord : List ℕ
+certWord = 99 ∷ 101 ∷ 114 ∷ 116 ∷ []  -- cert
+
+abbrev pub termsWord : List ℕ
+termsWord = 32 ∷ 116 ∷ 101 ∷ 114 ∷ 109 ∷ 115 ∷ []  -- a space, and terms
+
+abbrev pub distanceWord : List ℕ
+distanceWord = 32 ∷ 100 ∷ 105 ∷ 115 ∷ 116 ∷ 97 ∷ 110 ∷ 99 ∷ 101 ∷ []  -- a space, and distance
+
+abbrev pub radiusWord : List ℕ
+radiusWord = 114 ∷ 97 ∷ 100 ∷ 105 ∷ 117 ∷ 115 ∷ []  -- radius
+
+abbrev pub fromWord : List ℕ
+fromWord = 32 ∷ 102 ∷ 114 ∷ 111 ∷ 109 ∷ 32 ∷ 99 ∷ 101 ∷ 114 ∷ 116 ∷ []  -- a space, and from cert
+
+abbrev pub refusedWord : List ℕ
+refusedWord = 114 ∷ 101 ∷ 102 ∷ 117 ∷ 115 ∷ 101 ∷ 100 ∷ []  -- refused
+
+-- ---- the lines
+-- "n, k, s"
+abbrev pub codeText : ℕ → ℕ → ℕ → List ℕ
+codeText n k s = codeWord ++ spaced n ++ spaced k ++ spaced s ++ newline
+
 unfoldable pub codeLine : List ℕ → List ℕ
-codeLine sheet =
-    (99 ∷ 111 ∷ 100 ∷ 101 ∷ []) ++ spaced (codeLength sheet) ++ spaced (dimensionOf sheet) ++ spaced (orderOfTwo (codeLength sheet)) ++ newline
+codeLine sheet = codeText (codeLength sheet) (dimensionOf sheet) (orderOfTwo (codeLength sheet))
 
--- "zeros", D rising ("nothing after `zeros` if it is empty")
+-- "D rising (nothing after `zeros` if it is empty)"
 unfoldable pub zerosLine : List ℕ → List ℕ
-zerosLine sheet =
-    (122 ∷ 101 ∷ 114 ∷ 111 ∷ 115 ∷ []) ++ flatMap spaced (definingSet (codeLength sheet) (representatives sheet)) ++ newline
+zerosLine sheet = zerosWord ++ flatMap spaced (definingSet (codeLength sheet) (representatives sheet)) ++ newline
 
--- "generator", and after one space "the generator from x^0 up"
+-- "the generator from x^0 up"
 unfoldable pub generatorLine : List ℕ → List ℕ
-generatorLine sheet =
-    (103 ∷ 101 ∷ 110 ∷ 101 ∷ 114 ∷ 97 ∷ 116 ∷ 111 ∷ 114 ∷ 32 ∷ [])
-    ++ map (λ c. 48 + c) (generatorPoly (codeLength sheet) (representatives sheet)) ++ newline
+generatorLine sheet = generatorWord ++ map (λ c. 48 + c) (generatorPoly (codeLength sheet) (representatives sheet)) ++ newline
 
--- "cert", index, "terms", L, "distance", d
+-- "one line for each certificate with its index, L and d"
+abbrev pub certificateText : ℕ → ℕ → ℕ → List ℕ
+certificateText c terms d = certWord ++ spaced c ++ termsWord ++ spaced terms ++ distanceWord ++ spaced d ++ newline
+
 unfoldable pub certificateLine : List ℕ → ℕ → List ℕ
-certificateLine sheet c =
-    (99 ∷ 101 ∷ 114 ∷ 116 ∷ []) ++ spaced c
-    ++ (32 ∷ 116 ∷ 101 ∷ 114 ∷ 109 ∷ 115 ∷ []) ++ spaced (certificate sheet c .L)
-    ++ (32 ∷ 100 ∷ 105 ∷ 115 ∷ 116 ∷ 97 ∷ 110 ∷ 99 ∷ 101 ∷ []) ++ spaced (distance (certificate sheet c)) ++ newline
+certificateLine sheet c = certificateText c (certificate sheet c .L) (distance (certificate sheet c))
 
--- "radius", t, "from cert", the working index
+-- "t and the working index"
+abbrev pub radiusText : ℕ → ℕ → List ℕ
+radiusText t index = radiusWord ++ spaced t ++ fromWord ++ spaced index ++ newline
+
 unfoldable pub radiusLine : List ℕ → List ℕ
-radiusLine sheet =
-    (114 ∷ 97 ∷ 100 ∷ 105 ∷ 117 ∷ 115 ∷ []) ++ spaced (radius (workingCertificate sheet))
-    ++ (32 ∷ 102 ∷ 114 ∷ 111 ∷ 109 ∷ 32 ∷ 99 ∷ 101 ∷ 114 ∷ 116 ∷ []) ++ spaced (workingOf sheet) ++ newline
+radiusLine sheet = radiusText (radius (workingCertificate sheet)) (workingOf sheet)
 
 -- "A refused sheet gives only one line: `refused`, one space and its number."
 unfoldable pub refusedLine : ℕ → List ℕ
-refusedLine r = (114 ∷ 101 ∷ 102 ∷ 117 ∷ 115 ∷ 101 ∷ 100 ∷ []) ++ spaced r ++ newline
+refusedLine r = refusedWord ++ spaced r ++ newline
 
 unfoldable pub acceptedLines : List ℕ → List ℕ
 acceptedLines sheet =

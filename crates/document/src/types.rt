@@ -34,7 +34,8 @@ pub enum Judged {
     Refused(Refusal),
 }
 
-// What encoding, reading out and decoding return: the number of changed places (0 but for decoding), or a refusal.
+// What the entries with a lent buffer return: a number (of changed places for decoding, the listing's length for a card, else 0),
+// or a refusal.
 pub enum Reply {
     Done(usize),
     Refused(Refusal),

@@ -17,7 +17,7 @@ use Rattle.document.specs.declared.types.Refusal.the-variants.{CommonFactor, Pe
 use Rattle.document.specs.declared.types.Reply.{Reply}
 use Rattle.document.specs.Answer.{Answer, returned, refused, numberOf, repliedAs, settle}
 use Rattle.document.specs.Entry.{encodeOf, readOf}
-use Rattle.code.proofs.Weighing.{number-pos}
+use Rattle.judging.proofs.Weighing.{number-pos}
 use Rattle.dunefork.specs.Codes.{codeFor, codedAs}
 
 minus : (r : ℕ) → 0 < r → codeFor r [] ≡ negℤ (pos r)

@@ -5,55 +5,32 @@
 --   distance-le, terms-le   distance and terms have at most four digits
 --   certificate-is          the line
 --   checkable-of            one of them
-use mathlib.Core.Path.{_≡_, refl, sym, ap, ap₂, _∙_, subst}
-use mathlib.Core.List.{List, [], _∷_, _++_}
-use Prim.Native.Nat.{ℕ, zero, suc, _+_, _-_, _≤_, _<_}
-use native.Mathlib.Decide.{ℕ-discrete}
+use mathlib.Core.Path.{_≡_, ap, ap₂, _∙_}
+use mathlib.Core.List.{List, [], _∷_}
+use Prim.Native.Nat.{ℕ, _-_, _≤_, _<_}
 use native.Mathlib.Omega.{arith}
 use lib.ListN.{length, getD}
-use Rattle.document.specs.Answer.{Answer, returned, Conditions, firstOf, settle}
+use Rattle.document.specs.Answer.{Answer, returned, firstOf, settle}
 use Rattle.document.specs.Sheet.{codeLength, certificateCount, Certificate, certificate}
 use Rattle.document.specs.Certificate.{distance}
-use Rattle.document.specs.Judge.{sheetConditions, certificateConditions, judgeConditions}
+use Rattle.document.specs.Judge.{certificateConditions, judgeConditions}
 use Rattle.document.specs.Card.{certificateLine}
 use Rattle.document.proofs.Sane.{passed}
-use Rattle.document.proofs.Chain.{Quiet, silent, passing, flat, flat-suc}
+use Rattle.document.proofs.Acceptance.{quiet-first, quiet-certificate}
+use Rattle.document.proofs.Chain.{Quiet}
 use Rattle.certificate.specs.declared.types.Certificate.{Certificate as CodeCertificate}
 use Rattle.certificate.specs.declared.types.Checked.{Checked}
 use Rattle.certificate.specs.declared.types.Checked.the-variants.{Distance, Refused}
 use Rattle.certificate.specs.Rules.{Checkable, certificateAs, checkedAs, checkOf, distanceIn}
 use Rattle.certificate.proofs.Ranges.{Ranged, ranged}
 use Rattle.certificate.proofs.Checks.{quotient-le}
-use Rattle.listing.specs.Text.{certificateText}
+use Rattle.document.specs.Card.{certificateText}
 use Rattle.listing.specs.Accepted.{Sound}
 
 -- ---- no refusal
-quiet-back : (a : Conditions) {b : Conditions} → Quiet (a ++ b) → Quiet b
-quiet-back [] q = q
-quiet-back (c ∷ a) (passing e q) = quiet-back a q
-
-quiet-front : (a b : Conditions) → Quiet (a ++ b) → Quiet a
-quiet-front [] b q = silent
-quiet-front (c ∷ a) b (passing e q) = passing e (quiet-front a b q)
-
-quiet-first : {a : Conditions} → Quiet a → firstOf a ≡ 0
-unfolding firstOf
-quiet-first silent = refl
-quiet-first (passing {c = c} {l = l} e q) = rw (firstOf, e) (quiet-first q)
-
-flat-passes : (sheet : List ℕ) (k i : ℕ) → i < k → Quiet (flat sheet k) → firstOf (certificateConditions sheet i) ≡ 0
-flat-passes sheet zero i h q = absurd (omega arith)
-flat-passes sheet (suc k) i h q =
-    let r : Quiet (flat sheet k ++ certificateConditions sheet k) = subst Quiet (flat-suc sheet k) q in
-    elim (ℕ-discrete i k) [
-      | yes e ↦ subst (λ (x : ℕ). firstOf (certificateConditions sheet x) ≡ 0) (sym e) (quiet-first (quiet-back (flat sheet k) r))
-      | no e ↦ flat-passes sheet k i (omega arith) (quiet-front (flat sheet k) (certificateConditions sheet k) r)
-    ]
-
 pub quiet-passes : (sheet : List ℕ) → Quiet (judgeConditions sheet) → (i : ℕ) → i < certificateCount sheet
     → firstOf (certificateConditions sheet i) ≡ 0
-unfolding judgeConditions
-quiet-passes sheet q i h = flat-passes sheet (certificateCount sheet) i h (quiet-back (sheetConditions sheet) q)
+quiet-passes sheet q i h = quiet-first (quiet-certificate sheet q i h)
 
 -- ---- the check
 check-is : (sheet : List ℕ) (i : ℕ) → firstOf (certificateConditions sheet i) ≡ 0

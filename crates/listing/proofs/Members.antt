@@ -2,18 +2,17 @@
 --
 --   rows-flat        pieces in turn are a list of lists made flat
 --   members-are      the marked places are the defining set
---   binary-of, digits-are      the entries of g are the coefficients of the generator
-use mathlib.Core.Path.{_≡_, refl, sym, ap, ap₂, _∙_, subst}
+--   digits-are      the entries of g are the coefficients of the generator
+use mathlib.Core.Path.{_≡_, refl, sym, ap, ap₂, _∙_}
 use mathlib.Core.Bool.{Bool, true, false}
 use mathlib.Core.List.{List, [], _∷_, _++_, map, map-append, flatMap, append-assoc, append-nil}
-use Prim.Native.Nat.{ℕ, zero, suc, _+_, _-_, _/_, _^_, _≤_, _<_}
+use Prim.Native.Nat.{ℕ, zero, suc, _+_, _-_, _≤_}
 use native.Mathlib.Omega.{arith}
 use lib.ListN.{length, getD, take}
 use lib.Seq.{take-suc, take-length}
 use Rattle.field.specs.Search.{upTo, keep}
 use Rattle.field.specs.Mask.{coefficient}
 use Rattle.field.proofs.Search.{keep-suc}
-use Rattle.field.proofs.Xor.{digit-lt}
 use Rattle.document.specs.Coset.{inSet, definingSet, dimension}
 use Rattle.document.specs.Generator.{generatorPoly, generator}
 use Rattle.document.specs.Card.{spaced}
@@ -22,7 +21,7 @@ use Rattle.document.proofs.Theory.{Length}
 use Rattle.document.proofs.GeneratorIs.{generator-digit, generator-is}
 use Rattle.sheet.specs.Stage.{Marks, bit}
 use Rattle.binary.specs.Bits.{Holds}
-use Rattle.listing.specs.Text.{Binary, rows, member, memberIn, digitIn}
+use Rattle.listing.specs.Text.{rows, member, memberIn, digitIn}
 
 -- ---- lists of lists
 flat-append : (f : ℕ → List ℕ) (l m : List ℕ) → flatMap f (l ++ m) ≡ flatMap f l ++ flatMap f m
@@ -57,9 +56,6 @@ module _ {n : ℕ} {reps z : List ℕ} (h : Marks n reps z) where
   members-are = below n (omega arith)
 
 -- ---- the generator
-pub binary-of : {a : ℕ} {g : List ℕ} → Holds a g → Binary g
-binary-of {a} h = record { at = λ i. subst (λ (x : ℕ). x < 2) (sym (h .at i)) (digit-lt (a / 2 ^ i)) }
-
 module _ {n : ℕ} (l : Length n) (reps : List ℕ) {g : List ℕ} (h : Holds (generator n reps) g) where
   digit-is : (i : ℕ) → getD g i 0 ≡ getD (generatorPoly n reps) i 0
   digit-is i = h .at i ∙ ap (coefficient i) (generator-is l reps) ∙ sym (generator-digit l reps i)

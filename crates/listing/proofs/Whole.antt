@@ -16,9 +16,11 @@ use Rattle.document.specs.Card.{spaced, newline, codeLine, zerosLine, generator
 use Rattle.document.proofs.Sane.{working-most}
 use Rattle.document.proofs.Theory.{Length}
 use Rattle.sheet.proofs.Header.{headed-length}
-use Rattle.listing.specs.Text.{Ranges, rows, codeTexts, codeText, zerosWord, zerosText, generatorWord, generatorText, radiusText}
+use Rattle.document.specs.Card.{codeText, zerosWord, generatorWord, radiusText}
+use Rattle.listing.specs.Text.{Ranges, rows, codeTexts, zerosText, generatorText}
 use Rattle.listing.specs.Accepted.{Sound, Listable}
-use Rattle.listing.proofs.Members.{rows-flat, members-are, binary-of, digits-are}
+use Rattle.word.proofs.Spreading.{held-binary}
+use Rattle.listing.proofs.Members.{rows-flat, members-are, digits-are}
 use Rattle.listing.proofs.Certificates.{distance-le}
 
 reps-at : (sheet : List ℕ) {r : ℕ} → r ≡ byteAt sheet 3 → r ≡ representativeCount sheet
@@ -59,7 +61,7 @@ module _ {sheet zeros g : List ℕ} {n k s working t : ℕ} (l : Listable sheet 
     degree = omega (arith, s-is, l .head .degree);
     marked = l .marks .long;
     held = l .room;
-    binary = binary-of (l .holds);
+    binary = held-binary (l .holds);
   }
 
   pub sound-of : {reps count : ℕ} → reps ≡ byteAt sheet 3 → count ≡ byteAt sheet 6 → Sound sheet n reps count zeros

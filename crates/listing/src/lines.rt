@@ -1,8 +1,10 @@
 // The lines of the listing, by the numbers that stand in them.
 ghost use Prim.Native.Nat.{_+_, _*_, _<_, _≤_};
 ghost use lib.ListN.{length};
-ghost use Rattle.listing.specs.Text.{Wrote, Binary, rows, member, memberIn, digitIn};
-ghost use Rattle.listing.specs.Text.{codeText, zerosText, generatorText, certificateText, radiusText};
+ghost use Rattle.word.specs.Place.{Binary};
+ghost use Rattle.listing.specs.Text.{Wrote, rows, member, memberIn, digitIn};
+ghost use Rattle.document.specs.Card.{codeText, certificateText, radiusText};
+ghost use Rattle.listing.specs.Text.{zerosText, generatorText};
 use crate::text::put;
 use crate::text::put_field;
 use crate::text::put_spaced;

@@ -3,7 +3,7 @@
 --   Headed sheet       what the header of a sheet that draws none of 1 to 4 satisfies
 --   Marks n reps z     z holds 1 at each member of D, else 0
 --   Marked n r z z′ low      z′ is z with the coset of r marked; low is 0 exactly where r is its smallest
---   Found sheet z r    r says whether refusal 5 is drawn; where it is not, z marks D
+--   Found sheet z wrong      whether refusal 5 is drawn; where it is not, z marks D
 use mathlib.Core.Path.{_≡_}
 use mathlib.Core.Bool.{Bool, true, false}
 use mathlib.Core.List.{List}

@@ -1,4 +1,4 @@
-// The defining set: cosets of the representatives marked in a lent array of zeros, one walk for each; refusals 5 and 6.
+// The defining set: cosets of the representatives marked in a lent array of zeros, one walk for each; refusal 5.
 ghost use mathlib.Core.Path.{_≡_};
 ghost use mathlib.Core.Bool.{false};
 ghost use mathlib.Core.List.{[]};

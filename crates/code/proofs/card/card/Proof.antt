@@ -3,7 +3,7 @@ use native.Mathlib.Omega.{arith}
 use mathlib.Core.Path.{sym, ap, _∙_}
 use Rattle.document.specs.Answer.{judgedAs}
 use Rattle.listing.proofs.Cards.{card-size, card-refused}
-use Rattle.code.proofs.Weighing.{number-pos}
+use Rattle.judging.proofs.Weighing.{number-pos}
 use Rattle.code.proofs.Accepted.{usable}
 use Rattle.code.proofs.Cards.{number-le, first-is, recorded}
 use borrow.Author.Needs.{needs}

@@ -1,6 +1,5 @@
 -- `code::card::card_accepted` meets its contract: marks, generator and record, written.
 use native.Mathlib.Omega.{arith}
-use Rattle.document.proofs.Acceptance.{quiet-first}
 use Rattle.codeword.proofs.Words.{fresh}
 use Rattle.listing.proofs.Cards.{card-accepted}
 use Rattle.code.proofs.Cards.{markable, listable}
@@ -42,7 +41,7 @@ same-length : tie.Need-same-length
 same-length c = search needs
 
 returns : tie.Need-returns
-returns c = let r = c .before .before .before .before .before .before .before .before .before .before .before .before .before .before .before .before .before .before .pre in card-accepted _ (r .2) (quiet-first (r .0 .quiet)) (c .before .before .write-accepted .ensures)
+returns c = let r = c .before .before .before .before .before .before .before .before .before .before .before .before .before .before .before .before .before .before .pre in card-accepted _ (r .2) (r .0 .quiet) (c .before .before .write-accepted .ensures)
 
 pub card-accepted-spec : {M : Type 1} → statement M
 card-accepted-spec =

@@ -1,7 +1,7 @@
 -- `listing::lines::certificate_line` meets its contract: one piece after the other.
 use native.Mathlib.Omega.{arith}
 use Rattle.document.specs.Card.{spaced}
-use Rattle.listing.specs.Text.{termsWord, distanceWord}
+use Rattle.document.specs.Card.{termsWord, distanceWord}
 use Rattle.listing.proofs.Writing.{then, join}
 use borrow.Author.Needs.{needs}
 use Rattle.listing.proofs.lines.certificate_line.Statement.{statement}

@@ -3,7 +3,8 @@ use native.Mathlib.Omega.{arith}
 use mathlib.Core.Path.{_≡_, refl}
 use Prim.Native.Nat.{_+_, _-_, _≤_}
 use lib.ListN.{length}
-use Rattle.listing.specs.Text.{Wrote, Binary, rows, digitIn}
+use Rattle.word.specs.Place.{Binary}
+use Rattle.listing.specs.Text.{Wrote, rows, digitIn}
 use Rattle.listing.proofs.Pieces.{rows-start, rows-more, rows-end}
 use Rattle.listing.proofs.lines.put_digits.Statement.{statement}
 use Rattle.listing.proofs.lines.put_digits.Tie as tie
@@ -29,12 +30,12 @@ cast-digit : tie.Need-cast-digit Inv-loop μ-loop
 cast-digit c = omega (arith, c .shared-slice-known2 .given (c .before .before .loop .j))
 
 add-put : tie.Need-add-put Inv-loop μ-loop
-add-put c = let v = c .before .before .before .loop .inv in omega (arith, v .2 .at (c .before .before .before .loop .j))
+add-put c = let v = c .before .before .before .loop .inv in omega (arith, v .2 .small (c .before .before .before .loop .j))
 
 put-requires : tie.Need-put-requires Inv-loop μ-loop
 put-requires c κs =
     let v = c .before .before .before .loop .inv in
-    (omega (arith, v .0, v .3, v .5), omega (arith, v .2 .at (c .before .before .before .loop .j)))
+    (omega (arith, v .0, v .3, v .5), omega (arith, v .2 .small (c .before .before .before .loop .j)))
 
 add-j : tie.Need-add-j Inv-loop μ-loop
 add-j c = let v = c .before .before .before .before .before .before .loop .inv in omega (arith, v .0)

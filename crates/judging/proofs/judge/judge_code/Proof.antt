@@ -1,14 +1,14 @@
--- `code::judge::judge_code` meets its contract: each exit is the definition's, by the marks that refusal 5 leaves.
+-- `judging::judge::judge_code` meets its contract: each exit is the definition's, by the marks that refusal 5 leaves.
 use native.Mathlib.Omega.{arith}
 use mathlib.Core.Path.{_≡_, refl, sym, ap, _∙_, subst}
-use Rattle.code.specs.Weigh.{weighedAs}
+use Rattle.judging.specs.Weigh.{weighedAs}
 use Rattle.document.specs.Answer.{numberOf, returned}
-use Rattle.code.proofs.Weighing.{number-pos}
-use Rattle.code.proofs.Judging.{judge-5, judge-6, judge-refused, judge-accepted, size-is, none-left, some-left, recordable}
-use Rattle.code.proofs.Judging.{headed-length, headed-reps, headed-certs, odd-of, marks-at}
+use Rattle.judging.proofs.Weighing.{number-pos}
+use Rattle.judging.proofs.Judging.{judge-5, judge-6, judge-refused, judge-accepted, size-is, none-left, some-left, recordable}
+use Rattle.judging.proofs.Judging.{headed-length, headed-reps, headed-certs, odd-of, marks-at}
 use borrow.Author.Needs.{needs}
-use Rattle.code.proofs.judge.judge_code.Statement.{statement}
-use Rattle.code.proofs.judge.judge_code.Tie as tie
+use Rattle.judging.proofs.judge.judge_code.Statement.{statement}
+use Rattle.judging.proofs.judge.judge_code.Tie as tie
 
 byte-requires : tie.Need-byte-requires
 byte-requires c κs = let j = c .before .before .pre .0 in omega (arith, j .head .long)

@@ -1,10 +1,10 @@
--- `code::judge::better` meets its contract: by the test.
+-- `judging::judge::better` meets its contract: by the test.
 use mathlib.Core.Path.{sym, ap}
 use borrow.Author.Tests.{lt-ltb, le-ltb}
-use Rattle.code.specs.Weigh.{chosen}
+use Rattle.judging.specs.Weigh.{chosen}
 use borrow.Author.Needs.{needs}
-use Rattle.code.proofs.judge.better.Statement.{statement}
-use Rattle.code.proofs.judge.better.Tie as tie
+use Rattle.judging.proofs.judge.better.Statement.{statement}
+use Rattle.judging.proofs.judge.better.Tie as tie
 
 add-if1 : tie.Need-add-if1
 add-if1 c = search needs

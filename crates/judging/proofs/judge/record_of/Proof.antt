@@ -1,9 +1,9 @@
--- `code::judge::record_of` meets its contract: the numbers are the definition's, one by one.
+-- `judging::judge::record_of` meets its contract: the numbers are the definition's, one by one.
 use native.Mathlib.Omega.{arith}
-use Rattle.code.proofs.Judging.{record-is}
+use Rattle.judging.proofs.Judging.{record-is}
 use borrow.Author.Needs.{needs}
-use Rattle.code.proofs.judge.record_of.Statement.{statement}
-use Rattle.code.proofs.judge.record_of.Tie as tie
+use Rattle.judging.proofs.judge.record_of.Statement.{statement}
+use Rattle.judging.proofs.judge.record_of.Tie as tie
 
 add-number : tie.Need-add-number
 add-number c = let r = c .before .pre in omega (arith, r .reps-is, r .head .reps)

@@ -10,17 +10,16 @@
 use mathlib.Core.Path.{_≡_, refl, sym, ap, ap₂, _∙_, subst}
 use mathlib.Core.Logic.{_≢_}
 use mathlib.Core.Bool.{Bool, true, false}
-use mathlib.Core.List.{List, [], _∷_, _++_, flatMap}
+use mathlib.Core.List.{List, [], _∷_, flatMap}
 use Prim.Native.Nat.{ℕ, zero, suc, _+_, _-_, _*_, _/_, _≤_, _<_}
 use native.Mathlib.Decide.{decLt}
 use native.Mathlib.Omega.{arith}
-use lib.Dec.{eqb}
 use lib.ListN.{length, getD, replicate, length-append, length-replicate, getD-replicate}
 use borrow.Author.Tests.{eq-eqb, ne-eqb}
 use Rattle.field.specs.Search.{upTo, keep, some, total}
 use Rattle.field.specs.Field.{OddLength, orderOfTwo}
 use Rattle.field.proofs.Search.{true-ne-false, keep-suc, length-upTo, length-keep, total-z, total-s, total-ext}
-use Rattle.code.specs.declared.types.Best.{Best}
+use Rattle.judging.specs.declared.types.Best.{Best}
 use Rattle.document.specs.Answer.{Answer, returned, refused, Conditions, firstOf, settle}
 use Rattle.document.specs.Sheet.{byteAt, numberAt, codeLength, representatives, representativeCount, certificateCount}
 use Rattle.document.specs.Sheet.{certificate}
@@ -31,10 +30,10 @@ use Rattle.document.specs.Judge.{sheetConditions, certificateConditions, judgeC
 use Rattle.document.specs.Judge.{workingCertificate}
 use Rattle.document.specs.Judge.{recordOf, judgeOf}
 use Rattle.sheet.specs.Stage.{Headed, Marks, bit}
-use Rattle.code.specs.Weigh.{Recordable, Judgeable, weighOf}
+use Rattle.judging.specs.Weigh.{Recordable, Judgeable, weighOf}
 use Rattle.sheet.proofs.Header.{odd-length, length-1, headed}
 use Rattle.document.proofs.Sane.{settle-number, distance-pos, working-most}
-use Rattle.code.proofs.Weighing.{settle-refused}
+use Rattle.judging.proofs.Weighing.{settle-refused}
 
 abbrev six : Bool → Bool → Bool → Bool → Bool → Bool → Conditions → List ℕ → Answer
 six a b c d e f rest v = settle (firstOf ((1, a) ∷ (2, b) ∷ (3, c) ∷ (4, d) ∷ (5, e) ∷ (6, f) ∷ rest)) v [] [] .0

@@ -2,7 +2,6 @@
 --
 --   bestOf, weighedAs, weighOf, Weighable      what the weighing of all certificates says, and needs
 --   Recordable, Judgeable      what the record needs, and what refusals 5 to 10 need
---   Markable, Recorded         what marking D again needs, and what a listing takes from the record
 use mathlib.Core.Path.{_≡_}
 use mathlib.Core.Bool.{Bool, true, false}
 use mathlib.Core.List.{List, [], _∷_, flatMap}
@@ -11,14 +10,14 @@ use lib.Dec.{ltb}
 use lib.ListN.{length}
 use Rattle.field.specs.Search.{upTo}
 use Rattle.field.specs.Field.{orderOfTwo}
-use Rattle.code.specs.declared.types.Best.{Best}
-use Rattle.code.specs.declared.types.Weighed.{Weighed}
-use Rattle.code.specs.declared.types.Weighed.the-variants.{Working, Refused as NotWeighed}
+use Rattle.judging.specs.declared.types.Best.{Best}
+use Rattle.judging.specs.declared.types.Weighed.{Weighed}
+use Rattle.judging.specs.declared.types.Weighed.the-variants.{Working, Refused as NotWeighed}
 use Rattle.document.specs.Answer.{Answer, returned, refused, numberOf, firstOf, settle}
 use Rattle.document.specs.Sheet.{codeLength, representativeCount, representatives, certificateCount}
 use Rattle.document.specs.Coset.{definingSet}
-use Rattle.document.specs.Certificate.{distance, radius}
-use Rattle.document.specs.Judge.{wrongLength, wrongCodeLength, wrongDegree, wrongHeader, wrongRepresentative}
+use Rattle.document.specs.Certificate.{distance}
+use Rattle.document.specs.Judge.{wrongLength, wrongCodeLength, wrongDegree, wrongHeader}
 use Rattle.document.specs.Judge.{certificateConditions, workingOf, workingCertificate}
 use Rattle.sheet.specs.Stage.{Headed, Marks}
 
@@ -65,15 +64,3 @@ pub record Judgeable (sheet : List ℕ) : Type 0 where
   pub not-2 : wrongCodeLength sheet ≡ false
   pub not-3 : wrongDegree sheet ≡ false
   pub not-4 : wrongHeader sheet ≡ false
-
--- ---- the listing
-pub record Markable (sheet : List ℕ) (n s : ℕ) (zeros : List ℕ) : Type 0 where
-  pub head : Headed sheet
-  pub right : wrongRepresentative sheet ≡ false
-  pub n-is : n ≡ codeLength sheet
-  pub s-is : s ≡ orderOfTwo n
-  pub none : Marks n [] zeros
-
-pub record Recorded (sheet : List ℕ) (working t : ℕ) : Type 0 where
-  pub working-is : working ≡ workingOf sheet
-  pub t-is : t ≡ radius (workingCertificate sheet)

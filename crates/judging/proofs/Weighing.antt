@@ -4,13 +4,11 @@
 --   weighing-start, weighing-check, weighing-stop, weighing-more, weighing-end      the loop
 --   number-pos, settle-refused    a refusal's number is not 0
 use mathlib.Core.Path.{_≡_, refl, sym, ap, ap₂, _∙_, subst}
-use mathlib.Core.Bool.{Bool, true, false}
-use mathlib.Core.List.{List, [], _∷_, _++_, flatMap, append-nil}
-use Prim.Native.Nat.{ℕ, zero, suc, pred, _+_, _-_, _*_, _/_, _≤_, _<_}
+use mathlib.Core.List.{List, [], _∷_, flatMap, append-nil}
+use Prim.Native.Nat.{ℕ, zero, suc, pred, _+_, _-_, _/_, _≤_, _<_}
 use native.Mathlib.Decide.{ℕ-discrete, decLt}
 use native.Mathlib.Numerals.{add-one}
 use native.Mathlib.Omega.{arith}
-use lib.Dec.{ltb}
 use borrow.Author.Tests.{lt-ltb, le-ltb}
 use Rattle.field.specs.Search.{upTo}
 use Rattle.document.specs.declared.types.Refusal.{Refusal}
@@ -18,14 +16,13 @@ use Rattle.document.specs.declared.types.Refusal.the-variants.{SheetLength, Cod
 use Rattle.document.specs.declared.types.Refusal.the-variants.{NoMessage}
 use Rattle.document.specs.declared.types.Refusal.the-variants.{Range, CommonFactor, Period, Term, BufferLength, SpareBit}
 use Rattle.document.specs.declared.types.Refusal.the-variants.{NoneNear, NoCodeword}
-use Rattle.code.specs.declared.types.Best.{Best}
-use Rattle.document.specs.Answer.{Answer, returned, refused, numberOf, Conditions, firstOf, settle}
+use Rattle.judging.specs.declared.types.Best.{Best}
+use Rattle.document.specs.Answer.{returned, refused, numberOf, Conditions, firstOf, settle}
 use Rattle.document.specs.Sheet.{certificateCount, certificate}
 use Rattle.document.specs.Certificate.{distance, radius, working}
 use Rattle.document.specs.Judge.{certificateConditions, workingOf, workingCertificate}
-use Rattle.sheet.specs.Stage.{Headed}
 use Rattle.certificate.specs.Rules.{Checkable, checkOf}
-use Rattle.code.specs.Weigh.{Weighable, weighOf, bestOf, chosen}
+use Rattle.judging.specs.Weigh.{Weighable, weighOf, bestOf}
 use Rattle.document.proofs.Sane.{settle-number, distance-pos}
 use Rattle.document.proofs.Chain.{Quiet, silent, first-quiet, quiet-append, flat, flat-suc, four-quiet, flat-stop}
 use Rattle.document.proofs.Chain.{working-is, First, first-one, first-new, first-same}

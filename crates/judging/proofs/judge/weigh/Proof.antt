@@ -1,12 +1,12 @@
--- `code::judge::weigh` meets its contract: all certificates so far pass, and the best is the working one among them.
+-- `judging::judge::weigh` meets its contract: all certificates so far pass, and the best is the working one among them.
 use borrow.Author.Needs.{needs}
 use native.Mathlib.Omega.{arith}
 use mathlib.Core.Path.{_≡_, sym, ap, _∙_, subst}
 use Prim.Native.Nat.{ℕ, _-_, _≤_}
 use Rattle.certificate.specs.Rules.{checkedAs, distanceIn}
-use Rattle.code.proofs.Weighing.{Weighing, weighing-start, weighing-check, weighing-stop, weighing-more, weighing-end}
-use Rattle.code.proofs.judge.weigh.Statement.{statement}
-use Rattle.code.proofs.judge.weigh.Tie as tie
+use Rattle.judging.proofs.Weighing.{Weighing, weighing-start, weighing-check, weighing-stop, weighing-more, weighing-end}
+use Rattle.judging.proofs.judge.weigh.Statement.{statement}
+use Rattle.judging.proofs.judge.weigh.Tie as tie
 
 abbrev Inv-loop : tie.InvT-loop
 Inv-loop sheet n reps count zeros best₀ i₀ best i = Weighing sheet n reps count i best zeros × (i ≤ count) × (count ≤ 4)

@@ -1,0 +1,3 @@
+-- From certificates to the sheet's answer.
+pub mod Weighing
+pub mod Judging

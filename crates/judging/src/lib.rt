@@ -1,0 +1,3 @@
+// A sheet's certificates weighed, and its record.
+pub mod judge;
+pub mod types;

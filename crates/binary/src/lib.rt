@@ -1,3 +1,2 @@
-// Polynomials over two elements in slices of 0 and 1, and the generator of a code.
+// Polynomials over two elements in slices of 0 and 1.
 pub mod bits;
-pub mod generator;

@@ -26,7 +26,7 @@ use Rattle.document.proofs.Chain.{Quiet}
 use Rattle.document.proofs.Acceptance.{quiet-first, accepted-iff, accepted-record}
 use Rattle.sheet.specs.Stage.{Headed}
 use Rattle.sheet.proofs.Header.{headed}
-use Rattle.binary.specs.Building.{Rising}
+use Rattle.generator.specs.Building.{Rising}
 use Rattle.codeword.specs.Room.{Usable}
 
 -- ---- the record

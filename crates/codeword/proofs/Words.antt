@@ -34,7 +34,7 @@ use Rattle.document.proofs.Theory.{Length}
 use Rattle.document.proofs.GeneratorIs.{generator-degree}
 use Rattle.sheet.proofs.Header.{headed-length}
 use Rattle.binary.specs.Bits.{Holds, Divided, Any}
-use Rattle.binary.specs.Building.{Rising, Lengths, Building}
+use Rattle.generator.specs.Building.{Rising, Lengths, Building}
 use Rattle.word.specs.Place.{Spread, Packed}
 use Rattle.word.proofs.Places.{word-weights, message-weights, mask-lt}
 use Rattle.word.proofs.Spreading.{spread-part, spread-shifted, packed-is}

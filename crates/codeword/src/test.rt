@@ -6,7 +6,7 @@ ghost use Rattle.document.specs.Layout.{bytesFor};
 ghost use Rattle.codeword.specs.Room.{Usable, Fresh, Generated, Tested};
 use binary::bits::any;
 use binary::bits::divide;
-use binary::generator::generator;
+use generator::factors::generator;
 use sheet::sheet::byte;
 use word::spread::spread_word;
 

@@ -23,9 +23,9 @@ use Rattle.document.specs.Card.{acceptedLines, refusedLine, listingFor, listing
 use Rattle.document.proofs.Chain.{Quiet, first-true, first-false}
 use Rattle.sheet.specs.Stage.{Headed, Marks}
 use Rattle.binary.specs.Bits.{Holds}
-use Rattle.listing.specs.Text.{Wrote}
+use Rattle.text.specs.Wrote.{Wrote}
 use Rattle.listing.specs.Accepted.{Listable}
-use Rattle.listing.proofs.Writing.{piece-is, page}
+use Rattle.text.proofs.Writing.{piece-is, page}
 use Rattle.listing.proofs.Certificates.{quiet-passes}
 
 pub listable-of : (sheet : List ℕ) {zeros g : List ℕ} {n k s working t : ℕ} → Headed sheet → Quiet (judgeConditions sheet)

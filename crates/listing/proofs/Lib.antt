@@ -1,6 +1,4 @@
--- Pieces written one after the other, and what the lines of the listing are made of.
-pub mod Writing
-pub mod Decimals
+-- What the lines of the listing are made of.
 pub mod Pieces
 pub mod Members
 pub mod Certificates

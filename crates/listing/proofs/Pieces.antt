@@ -9,8 +9,9 @@ use Prim.Native.Nat.{ℕ, zero, suc, _+_, _≤_}
 use native.Mathlib.Numerals.{add-one}
 use lib.ListN.{length}
 use Rattle.document.specs.Card.{spaced}
-use Rattle.listing.specs.Text.{Wrote, rows, member}
-use Rattle.listing.proofs.Writing.{piece-is, wrote-none, then}
+use Rattle.text.specs.Wrote.{Wrote}
+use Rattle.listing.specs.Text.{rows, member}
+use Rattle.text.proofs.Writing.{piece-is, wrote-none, then}
 
 pub member-none : (mark i : ℕ) {at : ℕ} {out : List ℕ} → mark ≡ 0 → at ≤ length out → Wrote (member mark i) at out out at
 member-none mark i e h = piece-is (sym (ap (λ (m : ℕ). member m i) e)) (wrote-none h)

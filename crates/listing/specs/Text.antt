@@ -1,22 +1,15 @@
 -- What the writers pass to each other. No entry's contract cites this file.
 --
---   Wrote piece at out out′ end      out′ is out with the piece from `at` on, which stops before `end`
 --   zerosText, generatorText         the lines by the slices that they are made of
 --   rows piece n                     the pieces 0 to n - 1
 --   member, memberIn z i             place i after a space, where it is marked
 --   digitIn g i                      entry i of g as a digit
 --   codeTexts, Ranges                the first three lines, and what their numbers and slices are to satisfy
-use mathlib.Core.Path.{_≡_}
 use mathlib.Core.List.{List, [], _∷_, _++_}
 use Prim.Native.Nat.{ℕ, zero, suc, _+_, _-_, _≤_, _<_}
-use lib.ListN.{length, getD, take, drop}
+use lib.ListN.{length, getD}
 use Rattle.document.specs.Card.{spaced, newline, zerosWord, generatorWord, codeText}
 use Rattle.word.specs.Place.{Binary}
-
-pub record Wrote (piece : List ℕ) (at : ℕ) (out out′ : List ℕ) (end : ℕ) : Type 0 where
-  pub end-is : end ≡ at + length piece
-  pub within : end ≤ length out
-  pub is : out′ ≡ take at out ++ piece ++ drop (at + length piece) out
 
 unfoldable pub rows : (ℕ → List ℕ) → ℕ → List ℕ
 rows piece zero = []

@@ -1,4 +1,3 @@
 // The listing: bytes, numbers, lines, and the whole of it in a lent slice.
 mod lines;
 pub mod page;
-mod text;

@@ -2,13 +2,14 @@
 ghost use Prim.Native.Nat.{_+_, _*_, _<_, _≤_};
 ghost use lib.ListN.{length};
 ghost use Rattle.word.specs.Place.{Binary};
-ghost use Rattle.listing.specs.Text.{Wrote, rows, member, memberIn, digitIn};
+ghost use Rattle.text.specs.Wrote.{Wrote};
+ghost use Rattle.listing.specs.Text.{rows, member, memberIn, digitIn};
 ghost use Rattle.document.specs.Card.{codeText, certificateText, radiusText};
 ghost use Rattle.listing.specs.Text.{zerosText, generatorText};
-use crate::text::put;
-use crate::text::put_field;
-use crate::text::put_spaced;
-use crate::text::put_text;
+use text::piece::put;
+use text::piece::put_field;
+use text::piece::put_spaced;
+use text::piece::put_text;
 
 pub fn code_line(out: &mut [u8], at: usize, n: usize, k: usize, s: usize) -> usize
     requires { ⌜ (at + 20 ≤ length (now out)) × (n < 10000) × (k < 10000) × (s < 10000) ⌝ }

@@ -6,19 +6,20 @@ ghost use Rattle.document.specs.Answer.{firstOf};
 ghost use Rattle.document.specs.Judge.{certificateConditions};
 ghost use Rattle.document.specs.Card.{certificateLine, acceptedLines, refusedLine};
 ghost use Rattle.certificate.specs.Rules.{Checkable, distanceIn};
-ghost use Rattle.listing.specs.Text.{Wrote, Ranges, rows, codeTexts};
+ghost use Rattle.text.specs.Wrote.{Wrote};
+ghost use Rattle.listing.specs.Text.{Ranges, rows, codeTexts};
 ghost use Rattle.listing.specs.Accepted.{Sound, Listable};
 use crate::lines::certificate_line;
 use crate::lines::code_line;
 use crate::lines::generator_line;
 use crate::lines::radius_line;
 use crate::lines::zeros_line;
-use crate::text::put;
-use crate::text::put_field;
 use certificate::check::check;
 use certificate::check::read;
 use certificate::types::Checked;
 use sheet::sheet::byte;
+use text::piece::put;
+use text::piece::put_field;
 
 // The lines of the code itself.
 fn code_lines(out: &mut [u8], n: usize, k: usize, s: usize, zeros: &[u8], g: &[u8]) -> usize

@@ -4,7 +4,8 @@ use mathlib.Core.Path.{_≡_, refl}
 use Prim.Native.Nat.{_+_, _-_, _≤_}
 use lib.ListN.{length}
 use Rattle.word.specs.Place.{Binary}
-use Rattle.listing.specs.Text.{Wrote, rows, digitIn}
+use Rattle.text.specs.Wrote.{Wrote}
+use Rattle.listing.specs.Text.{rows, digitIn}
 use Rattle.listing.proofs.Pieces.{rows-start, rows-more, rows-end}
 use Rattle.listing.proofs.lines.put_digits.Statement.{statement}
 use Rattle.listing.proofs.lines.put_digits.Tie as tie

@@ -3,7 +3,8 @@ use native.Mathlib.Omega.{arith}
 use mathlib.Core.Path.{_≡_, refl}
 use Prim.Native.Nat.{_+_, _-_, _*_, _≤_}
 use lib.ListN.{length}
-use Rattle.listing.specs.Text.{Wrote, rows, memberIn}
+use Rattle.text.specs.Wrote.{Wrote}
+use Rattle.listing.specs.Text.{rows, memberIn}
 use Rattle.listing.proofs.Pieces.{rows-start, rows-more, rows-end}
 use Rattle.listing.proofs.lines.put_members.Statement.{statement}
 use Rattle.listing.proofs.lines.put_members.Tie as tie

@@ -2,7 +2,7 @@
 use native.Mathlib.Omega.{arith}
 use Rattle.document.specs.Card.{spaced}
 use Rattle.document.specs.Card.{fromWord}
-use Rattle.listing.proofs.Writing.{then, join}
+use Rattle.text.proofs.Writing.{then, join}
 use borrow.Author.Needs.{needs}
 use Rattle.listing.proofs.lines.radius_line.Statement.{statement}
 use Rattle.listing.proofs.lines.radius_line.Tie as tie

@@ -1,6 +1,6 @@
 -- `listing::lines::zeros_line` meets its contract: one piece after the other.
 use native.Mathlib.Omega.{arith}
-use Rattle.listing.proofs.Writing.{then}
+use Rattle.text.proofs.Writing.{then}
 use borrow.Author.Needs.{needs}
 use Rattle.listing.proofs.lines.zeros_line.Statement.{statement}
 use Rattle.listing.proofs.lines.zeros_line.Tie as tie

@@ -4,7 +4,8 @@ use mathlib.Core.Path.{_≡_, refl}
 use Prim.Native.Nat.{_+_, _-_, _*_, _≤_}
 use lib.ListN.{length}
 use Rattle.document.specs.Card.{certificateLine}
-use Rattle.listing.specs.Text.{Wrote, rows}
+use Rattle.text.specs.Wrote.{Wrote}
+use Rattle.listing.specs.Text.{rows}
 use Rattle.listing.specs.Accepted.{Sound}
 use Rattle.listing.proofs.Certificates.{checkable-of}
 use Rattle.listing.proofs.Pieces.{rows-start, rows-more, rows-end}

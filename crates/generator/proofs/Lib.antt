@@ -1,0 +1,5 @@
+-- The generator, coset by coset.
+pub mod TimesRoot
+pub mod CosetFactor
+pub mod Factor
+pub mod Assembly

@@ -1,0 +1,2 @@
+// The generator of a code.
+pub mod factors;

@@ -1,0 +1,3 @@
+-- Pieces written one after the other, and decimal numbers.
+pub mod Writing
+pub mod Decimals

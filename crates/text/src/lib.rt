@@ -1,0 +1,2 @@
+// Text written into a lent slice.
+pub mod piece;

@@ -1,0 +1,4 @@
+-- Distance, and what decoding is to find, in the words of the definitions.
+pub mod Rules
+pub mod Distance
+pub mod Sheets

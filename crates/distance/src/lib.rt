@@ -1,0 +1,1 @@
+// Laws only: what a certificate proves of a sheet's code.

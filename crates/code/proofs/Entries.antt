@@ -1,65 +1,27 @@
 -- The exits of the entries on words.
 --
---   entry-sheet, entry-refused, entry-done      a refused sheet, a later condition, none: for any entry
 --   encode-sheet, read-sheet    a refused sheet at each
 --   encode-message, encode-out, encode-spare, encode-done      the exits of encoding an accepted sheet's message
 --   read-word, read-out, read-spare, read-none, read-done      those of reading out
-use mathlib.Core.Path.{_≡_, refl, sym, ap, ap₂, _∙_}
+use mathlib.Core.Path.{_≡_, sym, ap, ap₂, _∙_}
 use mathlib.Core.Logic.{_≢_}
 use mathlib.Core.Bool.{Bool, true, false, not}
-use mathlib.Core.List.{List, [], _∷_, _++_}
-use Prim.Native.Nat.{ℕ, zero, suc, _+_, _-_, _<_}
+use mathlib.Core.List.{List, [], _∷_}
+use Prim.Native.Nat.{ℕ, _+_, _-_}
 use native.Mathlib.Omega.{arith}
 use lib.ListN.{length}
-use borrow.Author.Tests.{eq-eqb, ne-eqb}
 use Rattle.document.specs.declared.types.Refusal.{Refusal}
-use Rattle.document.specs.Answer.{Answer, returned, refused, numberOf, Conditions, firstOf, settle}
+use Rattle.document.specs.Answer.{returned, refused, numberOf}
 use Rattle.document.specs.Layout.{wordWeight, messageWeight, bytesFor, maskOf, bytesOf, spare}
 use Rattle.document.specs.Sheet.{codeLength}
 use Rattle.document.specs.Generator.{isCodeword, messageOf}
-use Rattle.document.specs.Judge.{judgeConditions, dimensionOf, recordOf, judgeOf}
+use Rattle.document.specs.Judge.{dimensionOf, judgeOf}
 use Rattle.document.specs.Entry.{wrongSize, generatorOf, wordOf, encodeConditions, encodedWord, encodeOf, readConditions, readOf}
-use Rattle.document.proofs.Sane.{settle-number}
 use Rattle.document.proofs.Acceptance.{quiet-of}
-use Rattle.document.proofs.Chain.{Quiet, first-true, first-false, first-quiet, first-keep}
+use Rattle.document.proofs.Settled.{entry-sheet, entry-refused, entry-done, first-nil, size-wrong, size-right}
+use Rattle.document.proofs.Chain.{first-true, first-false}
 use Rattle.judging.proofs.Weighing.{number-pos}
 use Rattle.codeword.specs.Room.{Usable, Tested, MessageRead}
-
--- ---- any entry
-module _ (sheet : List ℕ) (conds : Conditions) (v w old : List ℕ) where
-  abbrev answer : Answer × List ℕ
-  answer = settle (firstOf (judgeConditions sheet ++ conds)) v w old
-
-  settled : (r : ℕ) → firstOf (judgeConditions sheet ++ conds) ≡ suc r → (refused (suc r), old) ≡ answer
-  unfolding settle
-  settled r e = sym (ap (λ (x : ℕ). settle x v w old) e)
-
-  judged-first : (r : ℕ) → refused (suc r) ≡ judgeOf sheet → firstOf (judgeConditions sheet) ≡ suc r
-  unfolding judgeOf
-  judged-first r e =
-      sym (settle-number (firstOf (judgeConditions sheet)) (recordOf sheet) [] []) ∙ sym (ap (λ (a : Answer). a .number) e)
-
-  pub entry-sheet : (r : ℕ) → 0 < r → refused r ≡ judgeOf sheet → (refused r, old) ≡ answer
-  entry-sheet zero h e = absurd (omega arith)
-  entry-sheet (suc r) h e = settled r (first-keep (judgeConditions sheet) conds r (judged-first r e))
-
-  pub entry-refused : (r : ℕ) → Quiet (judgeConditions sheet) → firstOf conds ≡ suc r → (refused (suc r), old) ≡ answer
-  entry-refused r q e = settled r (first-quiet conds q ∙ e)
-
-  pub entry-done : {w′ : List ℕ} → Quiet (judgeConditions sheet) → firstOf conds ≡ 0 → w′ ≡ w → (returned v, w′) ≡ answer
-  unfolding settle
-  entry-done q e f = ap (λ (x : List ℕ). (returned v, x)) f ∙ sym (ap (λ (x : ℕ). settle x v w old) (first-quiet conds q ∙ e))
-
--- ---- conditions
-first-nil : firstOf [] ≡ 0
-unfolding firstOf
-first-nil = refl
-
-size-wrong : (k : ℕ) (b : List ℕ) → length b ≢ bytesFor k → wrongSize k b ≡ true
-size-wrong k b h = ap not (ne-eqb (length b) (bytesFor k) h)
-
-size-right : (k : ℕ) (b : List ℕ) → length b ≡ bytesFor k → wrongSize k b ≡ false
-size-right k b h = ap not (eq-eqb (length b) (bytesFor k) h)
 
 -- ---- encoding
 pub encode-sheet : (sheet message out : List ℕ) (q : Refusal) → refused (numberOf q) ≡ judgeOf sheet

@@ -97,6 +97,9 @@ module _ {n : ℕ} (l : Length n) (reps : List ℕ) (c : Certificate) (s : Sound
   unfolding nearest
   first r = least-is (close r) (2 ^ k)
 
+  pub nearest-le : (r : ℕ) → found r ≤ 2 ^ k
+  nearest-le r = first r .le
+
   most : (r x : ℕ) → close r x ≡ true → found r ≤ x
   unfolding nearest
   most r x e = least-most (close r) (2 ^ k) x e

@@ -2,3 +2,4 @@
 pub mod Rules
 pub mod Distance
 pub mod Sheets
+pub mod Decoding

@@ -108,3 +108,8 @@ module _ (sheet : List ℕ) (e : judgeOf sheet .number ≡ 0) where
       let w =
       Distance.nearest-none accepted-length (representatives sheet) (workingCertificate sheet) working-sound (wordOf sheet bytes) in
       (λ q c x. w .0 q c (working-word x), λ f. w .1 (λ c x. f c (word-working x)))
+
+  pub nearest-le : (bytes : List ℕ) → nearestMessage sheet bytes ≤ 2 ^ k
+  unfolding radiusOf nearestMessage dimensionOf generatorOf
+  nearest-le bytes =
+      Distance.nearest-le accepted-length (representatives sheet) (workingCertificate sheet) working-sound (wordOf sheet bytes)

@@ -8,3 +8,4 @@ pub mod Theory
 pub mod GeneratorIs
 pub mod Demand2
 pub mod Join
+pub mod Settled

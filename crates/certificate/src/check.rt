@@ -122,8 +122,8 @@ fn next_register(f: usize, num: usize) -> usize
 }
 
 // (at + z) mod n, with no division.
-fn step(n: usize, at: usize, z: usize) -> usize
-    requires { ⌜ (at < n) × (z < n) × (n ≤ 127) ⌝ }
+pub fn step(n: usize, at: usize, z: usize) -> usize
+    requires { ⌜ (at < n) × (z < n) × (n ≤ 65535) ⌝ }
     ensures { λ r. ⌜ r ≡ (at + z) % n ⌝ }
 {
     let next = at + z;

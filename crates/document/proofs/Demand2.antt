@@ -1,5 +1,6 @@
 -- Codewords and encoding, in the words of the definitions alone: for each n of Length, and any representatives.
 --
+--   below-lt, value-is   a mask's value at an element (valueAt of the definitions) is the theory's
 --   value-zero           a mask's value at an element (valueAt of the definitions) is 0 exactly where the theory's value is
 --   codeword-iff, encode-is      codewords and encoding are the theory's
 --   multiple-iff         a codeword is a multiple of the generator,
@@ -53,7 +54,7 @@ module _ {s : ℕ} (d : Degree s) (a c : ℕ) where
       (subst (λ (x : ℕ). x < 2 ^ s) (sym (one-mul (fieldPower s a m))) (power-lt d a m)) (coefficient m c)
       (digit-lt (c / 2 ^ m))
 
-  below-lt : (m : ℕ) → valueBelow s a m c < 2 ^ s
+  pub below-lt : (m : ℕ) → valueBelow s a m c < 2 ^ s
   unfolding valueBelow
   below-lt zero = pow-pos s
   below-lt (suc m) = ⊕-lt s (valueBelow s a m c) _ (below-lt m) (term-lt m)
@@ -74,7 +75,7 @@ module _ {s : ℕ} (d : Degree s) (a c : ℕ) where
   below-is (suc m) =
       el-add d (valueBelow s a m c) _ ∙ ap₂ (GF d .add) (below-is m) (term-is m) ∙ sym (sum-s (GF d) m _)
 
-  value-is : el d (valueAt s a c) ≡ value (GF d) (el d a) c
+  pub value-is : el d (valueAt s a c) ≡ value (GF d) (el d a) c
   unfolding valueAt
   value-is =
       below-is (size c) ∙ sym (ev-sum (GF d) (size c) (lift (GF d) c) (el d a))

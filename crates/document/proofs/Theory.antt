@@ -3,6 +3,7 @@
 --   Length n            n is odd, and the order of 2 modulo n is a degree of the field's table: degree
 --   T-of, of-T          a test that says true
 --   representatives     D is the union of the cosets of any list of numbers
+--   root-mod            exponents of α count modulo n
 --   codeOf              so it is the defining set of a code: its checks are n - k, and its dimension is k
 use mathlib.Core.Path.{_≡_, refl, sym, ap, _∙_, subst}
 use mathlib.Core.Bool.{Bool, true, false, _||_}
@@ -15,15 +16,16 @@ use lib.Dec.{T}
 use lib.ListN.{length}
 use Rattle.algebra.proofs.Lists.{In, here, there}
 use Rattle.field.specs.Search.{some}
-use Rattle.field.specs.Field.{Degree, OddLength, orderOfTwo}
+use Rattle.algebra.proofs.Power.{pow, pow-mod}
+use Rattle.field.specs.Field.{Degree, OddLength, fieldPower, orderOfTwo, α}
 use Rattle.field.proofs.Search.{true-ne-false}
 use Rattle.field.proofs.OrderOfTwo.{order-pos, order-mod, order-divides}
-use Rattle.field.proofs.Elements.{GF}
+use Rattle.field.proofs.Elements.{GF, el, el-inj, root-order}
+use Rattle.field.proofs.Numbers.{power-lt, el-power, el-root}
 use Rattle.cyclic.proofs.CyclicCode.{Code}
 use Rattle.cyclic.proofs.Coset.{Representatives, cosetCode}
 use Rattle.cyclic.proofs.Members.{members}
 use Rattle.cyclic.proofs.Generator as Generator
-use Rattle.document.specs.Sheet.{codeLength}
 use Rattle.document.specs.Coset.{inCoset, inSet, definingSet, dimension}
 use Rattle.document.proofs.Cosets.{coset-at, coset-of}
 use Rattle.document.proofs.Sane.{set-size}
@@ -97,3 +99,15 @@ module _ {n : ℕ} (l : Length n) (reps : List ℕ) where
   pub dimension-is : Generator.dimension codeOf ≡ dimension n reps
   unfolding Generator.checks dimension
   dimension-is = ap (λ l. n - length l) members-are
+
+-- ---- exponents of α are modulo n
+module _ {n : ℕ} (l : Length n) where
+  pub root-mod : (k : ℕ) → fieldPower (orderOfTwo n) (α (orderOfTwo n) n) (k % n) ≡ fieldPower (orderOfTwo n) (α (orderOfTwo n) n) k
+  root-mod k =
+      let d : Degree (orderOfTwo n) = degree l in
+      let e : (i : ℕ) → el d (fieldPower (orderOfTwo n) (α (orderOfTwo n) n) i) ≡ pow (GF d)
+      (el d (α (orderOfTwo n) n)) i = λ i. el-power d (α (orderOfTwo n) n) i in
+      el-inj d (power-lt d (α (orderOfTwo n) n) (k % n)) (power-lt d (α (orderOfTwo n) n) k)
+      (e (k % n) ∙ ap (λ x. pow (GF d) x (k % n)) (el-root d n)
+      ∙ sym (pow-mod (GF d) _ n (root-order d n (order-divides (l .odd))) k)
+      ∙ ap (λ x. pow (GF d) x k) (sym (el-root d n)) ∙ sym (e k))

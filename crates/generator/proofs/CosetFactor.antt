@@ -12,30 +12,16 @@ use native.Mathlib.Decide.{ℕ-discrete}
 use native.Mathlib.Numerals.{add-one}
 use native.Mathlib.Omega.{arith}
 use lib.ListN.{length, getD, List·getD-eq-default}
-use Rattle.algebra.proofs.Power.{pow, pow-mod}
-use Rattle.field.specs.Field.{Degree, fieldMultiply, fieldPower, orderOfTwo, α}
-use Rattle.field.proofs.OrderOfTwo.{order-pos, order-divides, count-lt}
-use Rattle.field.proofs.Elements.{GF, el, el-inj, root-order}
-use Rattle.field.proofs.Numbers.{power-add, power-lt, el-power, el-root}
+use Rattle.field.specs.Field.{Degree, fieldMultiply, fieldPower, α}
+use Rattle.field.proofs.OrderOfTwo.{order-pos, count-lt}
+use Rattle.field.proofs.Numbers.{power-add, power-lt}
 use Rattle.document.specs.Generator.{timesRoot, rootProduct}
 use Rattle.generator.specs.Coefficients.{Roomy, Timed, walk, Walking, One, Walked}
-use Rattle.document.proofs.Theory.{Length, degree}
+use Rattle.document.proofs.Theory.{Length, degree, root-mod}
 use Rattle.document.proofs.Sane.{product-length}
 use Rattle.document.proofs.GeneratorIs.{product-small}
 use Rattle.document.proofs.Cosets.{round, walk-start, walk-more}
 use Rattle.generator.proofs.TimesRoot.{timed-same}
-
--- ---- exponents of α are modulo n
-module _ {n : ℕ} (l : Length n) where
-  root-mod : (k : ℕ) → fieldPower (orderOfTwo n) (α (orderOfTwo n) n) (k % n) ≡ fieldPower (orderOfTwo n) (α (orderOfTwo n) n) k
-  root-mod k =
-      let d : Degree (orderOfTwo n) = degree l in
-      let e : (i : ℕ) → el d (fieldPower (orderOfTwo n) (α (orderOfTwo n) n) i) ≡ pow (GF d)
-      (el d (α (orderOfTwo n) n)) i = λ i. el-power d (α (orderOfTwo n) n) i in
-      el-inj d (power-lt d (α (orderOfTwo n) n) (k % n)) (power-lt d (α (orderOfTwo n) n) k)
-      (e (k % n) ∙ ap (λ x. pow (GF d) x (k % n)) (el-root d n)
-      ∙ sym (pow-mod (GF d) _ n (root-order d n (order-divides (l .odd))) k)
-      ∙ ap (λ x. pow (GF d) x k) (sym (el-root d n)) ∙ sym (e k))
 
 -- ---- the walk
 pub record Stepping (n s r m x root : ℕ) (p : List ℕ) : Type 0 where

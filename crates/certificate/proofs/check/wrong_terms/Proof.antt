@@ -30,7 +30,7 @@ next-register-requires : tie.Need-next-register-requires Inv-loop μ-loop
 next-register-requires c κs = let v = c .before .before .before .before .loop .inv in (f-fits (v .0) (v .1), num-lt (v .0) (v .1))
 
 step-requires : tie.Need-step-requires Inv-loop μ-loop
-step-requires c κs = let v = c .before .before .before .before .before .loop .inv in (at-lt (v .0) (v .1), v .0 .step, v .0 .most)
+step-requires c κs = let v = c .before .before .before .before .before .loop .inv in (at-lt (v .0) (v .1), v .0 .step, omega (arith, v .0 .most))
 
 add-j : tie.Need-add-j Inv-loop μ-loop
 add-j c = omega arith

@@ -1,0 +1,4 @@
+-- Values of words.
+pub mod Values
+pub mod Squares
+pub mod Computing

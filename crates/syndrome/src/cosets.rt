@@ -1,0 +1,38 @@
+// Values along cosets: the value at a square is the square of the value.
+ghost use Rattle.syndrome.specs.Value.{Spreadable, Spread, Computable, Computed};
+use crate::value::value;
+use field::arithmetic::order;
+use field::degree::twice;
+use field::tables::multiply;
+
+// From the value v at α^r, the values at α^(2r), α^(4r), .. in s turns.
+pub fn spread(n: usize, s: usize, r: usize, v: u16, e: &[u16], g: &[u16], val: &mut [u16])
+    requires { ⌜ Spreadable n s r v (now e) (now g) (now val) ⌝ }
+    ensures { λ _. ⌜ Spread n s r v (now (val .entry)) (now (val .exit)) ⌝ }
+{
+    let mut x = r;
+    let mut y = v;
+    let mut j: usize = 0;
+    while j < s {
+        val[x] = y;
+        x = twice(n, x);
+        y = multiply(s, y, y, e, g);
+        j = j + 1;
+    }
+}
+
+// The values of a word at α^i for every i of D: those at the representatives from its places, the others along the cosets.
+pub fn values(w: &[u8], n: usize, s: usize, reps: &[u8], e: &[u16], g: &[u16], val: &mut [u16])
+    requires { ⌜ Computable n s (now w) (now reps) (now e) (now g) (now val) ⌝ }
+    ensures { λ _. ⌜ Computed n s (now (w .entry)) (now (reps .entry)) (now (val .exit)) ⌝ }
+{
+    let q = order(s) / n;
+    let count = reps.len();
+    let mut k: usize = 0;
+    while k < count {
+        let r = reps[k] as usize;
+        let v = value(w, n, s, r * q, e);
+        spread(n, s, r, v, e, g, val);
+        k = k + 1;
+    }
+}

@@ -1,0 +1,3 @@
+// Values of words at powers of α.
+pub mod cosets;
+pub mod value;

@@ -41,7 +41,7 @@ extern "C" {
 #define DUNEFORK_WORD_MAX 16
 
 /* What a call returns where it refuses. Then `out` is as it was, every byte of it. The conditions are tried in this order; those
- * of certificates (RANGE to TERM) for one certificate after the other. -13 is kept for decoding, and not returned here. */
+ * of certificates (RANGE to TERM) for one certificate after the other. */
 #define DUNEFORK_SHEET_LENGTH (-1)    /* the sheet is under 10 or over 74 bytes, or states another length */
 #define DUNEFORK_CODE_LENGTH (-2)     /* n is even, below 3 or above 127 */
 #define DUNEFORK_FIELD_DEGREE (-3)    /* n divides no 2^s - 1 with s up to 12 */
@@ -56,6 +56,7 @@ extern "C" {
 #define DUNEFORK_TERM (-10)           /* a certificate has a term j below L that is 1 while b + j z modulo n is outside the defining set */
 #define DUNEFORK_BUFFER_LENGTH (-11)  /* the input or `out` has not its exact length */
 #define DUNEFORK_SPARE_BIT (-12)      /* a spare bit of the input is 1 */
+#define DUNEFORK_NONE_NEAR (-13)      /* decoding: no codeword within t places of the word */
 #define DUNEFORK_NO_CODEWORD (-14)    /* reading out: the word is no codeword */
 
 /* Encodes a message of exactly DUNEFORK_BYTES(k) bytes into the codeword in out, exactly DUNEFORK_BYTES(n) bytes:
@@ -67,6 +68,13 @@ int32_t dunefork_encode(const uint8_t *sheet, size_t sheet_len, const uint8_t *m
  * accepted sheet a word of the right length without spare bits is refused, with DUNEFORK_NO_CODEWORD, exactly where it is no
  * codeword. Returns 0, or one of the numbers above. */
 int32_t dunefork_read(const uint8_t *sheet, size_t sheet_len, const uint8_t *word, size_t word_len, uint8_t *out, size_t out_len);
+
+/* Corrects a received word of exactly DUNEFORK_BYTES(n) bytes: the codeword that differs from it in at most t places goes into
+ * out, exactly DUNEFORK_BYTES(n) bytes, and the number of places in which the two differ is returned, 0 to t. t is the sheet's
+ * radius, told by the program linkcard: the largest (d - 1)/2, rounded down, of the sheet's certificates. There is never more
+ * than one such codeword. On an accepted sheet a word of the right length without spare bits is refused, with
+ * DUNEFORK_NONE_NEAR, exactly where there is none. A negative return is one of the numbers above. */
+int32_t dunefork_decode(const uint8_t *sheet, size_t sheet_len, const uint8_t *word, size_t word_len, uint8_t *out, size_t out_len);
 
 #ifdef __cplusplus
 }

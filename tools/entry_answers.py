@@ -295,9 +295,16 @@ def calls(sheet):
 
 
 SHEETS = list(known()) + list(drawn(400))
-for s in SHEETS:
-    for call, given, room, told in calls(s):
-        if sys.argv[1] == 'calls':
-            sys.stdout.buffer.write(bytes([call, len(s), len(given), room] + s) + given)
-        else:
-            print(told)
+
+
+def main():
+    for s in SHEETS:
+        for call, given, room, told in calls(s):
+            if sys.argv[1] == 'calls':
+                sys.stdout.buffer.write(bytes([call, len(s), len(given), room] + s) + given)
+            else:
+                print(told)
+
+
+if __name__ == '__main__':
+    main()

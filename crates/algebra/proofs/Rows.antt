@@ -3,7 +3,7 @@
 --   Rows R L S r₀ t₀ r₁ t₁ n₀ e₀ n₁ e₁      two rows, r = s x ^ L + t S with s hidden, of determinant 1;
 --                 each remainder r is below n, and each t has degree at most e
 --   begin         the rows x ^ L and S
---   swap, lower, step      what keeps rows: exchange, a lower bound, a monomial multiple added to the other row
+--   swap, lower, step      what keeps rows: exchange, a lower bound, a multiple added to the other row
 --   reduce        the step that takes the leading coefficient away
 --   combine       the identity behind a step: rows add up coefficient by coefficient
 --   Pair R L S n₀ n₁       rows with all but their bounds hidden
@@ -20,7 +20,7 @@ use Rattle.algebra.proofs.Field.{Field}
 use Rattle.algebra.proofs.Coprime.{has-zero}
 use Rattle.algebra.proofs.Series.{Ser}
 use Rattle.algebra.proofs.Poly.{Below, Below·weaken, Below·drop, Below·one, Below·zero, Below·add, Below·deg}
-use Rattle.algebra.proofs.Poly.{le-or-lt, IsPoly, Polys, mono, mono-below, mono-poly}
+use Rattle.algebra.proofs.Poly.{le-or-lt, IsPoly, is-poly, Polys, mono, mono-below}
 use Rattle.algebra.proofs.Divide.{lead, lead-below}
 
 module _ {A : Type 0} (R : Ring A) where
@@ -104,10 +104,10 @@ module _ {A : Type 0} (R : Ring A) where
       fit₁ = omega (arith, z .fit₁);
     }
 
-    -- c x ^ k times the second row is added to the first, if that does not lengthen it
-    pub step : (c : A) (k : ℕ) → 0 < n₁ → k +ℕ n₁ ≤ n₀ → Rows L S r₀ t₀ r₁ t₁ n₀ e₀ n₁ e₁
-        → Rows L S (r₀ ⊕ mono R k c ⊗ r₁) (t₀ ⊕ mono R k c ⊗ t₁) r₁ t₁ n₀ (max e₀ (k +ℕ e₁)) n₁ e₁
-    step c k pos h z = record {
+    -- q times the second row is added to the first, where q has degree at most k, if that does not lengthen it
+    pub step : (k : ℕ) {q : ℕ → A} → Below R (suc k) q → 0 < n₁ → k +ℕ n₁ ≤ n₀ → Rows L S r₀ t₀ r₁ t₁ n₀ e₀ n₁ e₁
+        → Rows L S (r₀ ⊕ q ⊗ r₁) (t₀ ⊕ q ⊗ t₁) r₁ t₁ n₀ (max e₀ (k +ℕ e₁)) n₁ e₁
+    step k {q} d pos h z = record {
       s₀ = z .s₀ ⊕ q ⊗ z .s₁;
       s₁ = z .s₁;
       eq₀ = ap₂ (λ x y. x ⊕ q ⊗ y) (z .eq₀) (z .eq₁) ∙ combine (Ser R) (mono R L 𝟙) (z .s₁) (z .s₀) t₁ t₀ S q;
@@ -117,20 +117,17 @@ module _ {A : Type 0} (R : Ring A) where
       r₁-below = z .r₁-below;
       t₀-below =
           Below·add R (Below·weaken R (omega arith) (z .t₀-below))
-          (Below·weaken R (omega arith) (Below·deg R (mono-below R k c) (z .t₁-below)));
+          (Below·weaken R (omega arith) (Below·deg R d (z .t₁-below)));
       t₁-below = z .t₁-below;
-      s₀-poly = Polys R .has-add (z .s₀-poly) (Polys R .has-mul (mono-poly R k c) (z .s₁-poly));
+      s₀-poly = Polys R .has-add (z .s₀-poly) (Polys R .has-mul (is-poly R d) (z .s₁-poly));
       s₁-poly = z .s₁-poly;
       fit₀ = omega (arith, z .fit₀, z .fit₁);
       fit₁ = z .fit₁;
     }
       where
-        q : ℕ → A
-        q = mono R k c
-
         long : (m : ℕ) → 0 < m → k +ℕ m ≤ n₀ → Below R m r₁ → Below R n₀ (q ⊗ r₁)
         long zero p h b = absurd (omega arith)
-        long (suc m) p h b = Below·weaken R (omega arith) (Below·deg R (mono-below R k c) b)
+        long (suc m) p h b = Below·weaken R (omega arith) (Below·deg R d b)
 
   pub record Pair (L : ℕ) (S : ℕ → A) (n₀ n₁ : ℕ) : Type 0 where
     pub r₀ : ℕ → A
@@ -186,7 +183,7 @@ module _ {A : Type 0} (R : Ring A) (K : Field R) where
       Rows R L S (r₀ ⊕ q ⊗ r₁) (t₀ ⊕ q ⊗ t₁) r₁ t₁ k₀ (max e₀ (k₀ -ℕ k₁ +ℕ e₁)) (suc k₁) e₁
   reduce {k₀ = k₀} {k₁ = k₁} ne h z =
       lower R (omega arith) (lead-below R K h (z .r₀-below) (record { below = z .r₁-below; top = ne }))
-      (step R _ (k₀ -ℕ k₁) (omega arith) (omega arith) z)
+      (step R (k₀ -ℕ k₁) (mono-below R (k₀ -ℕ k₁) _) (omega arith) (omega arith) z)
 
   -- one of two bounds falls by one
   fall : {L k₀ k₁ : ℕ} {S : ℕ → A} → Pair R L S (suc k₀) (suc k₁) → Pair R L S k₀ (suc k₁) ⊎ Pair R L S (suc k₀) k₁

@@ -1,7 +1,7 @@
 -- One certificate against its four rules, with the code's locals.
 --
 --   check-7 .. check-10, check-pass      one law for each exit of the check
---   ratio-of, modulus-of, walkable-of    what rule 1 gives the functions that test the others
+--   ratio-of, modulus-of, walkable-ranged, walkable-of    what rule 1 gives the functions that test the others
 --   lengths                     n is 3 to 127
 --   distance-is                 the distance by the code's sum
 use mathlib.Core.Path.{_≡_, refl, sym, ap, ap₂, _∙_}
@@ -11,9 +11,10 @@ use mathlib.Core.List.{List, [], _∷_}
 use Prim.Native.Nat.{ℕ, suc, _+_, _-_, _/_, _^_, _≤_, _<_}
 use native.Mathlib.Nat.{div-le-self}
 use native.Mathlib.Omega.{arith}
+use lib.ListN.{length}
 use lib.Pow.{pow-mono}
-use Rattle.poly.specs.Factor.{coprime, degree, common, period, Modulus, Ratio}
-use Rattle.poly.proofs.Degree.{degree-low, degree-high, degree-eq}
+use Rattle.masks.specs.Factor.{coprime, degree, common, period, Modulus, Ratio}
+use Rattle.masks.proofs.Degree.{degree-low, degree-high, degree-eq}
 use Rattle.certificate.specs.declared.types.Certificate.{Certificate as CodeCertificate}
 use Rattle.document.specs.Answer.{Answer, returned, refused, firstOf, settle}
 use Rattle.document.specs.Sheet.{representatives, Certificate, certificate}
@@ -116,9 +117,9 @@ module _ {n : ℕ} {c : CodeCertificate} (r : Ranged n (certificateAs c)) where
   pub modulus-of : {u : ℕ} → u ≡ degree (c .f) → Modulus (c .f) u
   modulus-of e = record { is = e; lo = omega (arith, r .u-low); hi = omega (arith, r .u-high); odd = r .f-odd }
 
-  pub walkable-of : {sheet z : List ℕ} {reps i : ℕ} → Checkable sheet n reps i z → Walkable n c z
-  walkable-of w = record {
-    most = omega (arith, w .n-is, w .head .most);
+  pub walkable-ranged : {z : List ℕ} → n ≤ 127 → n ≤ length z → Walkable n c z
+  walkable-ranged most long = record {
+    most = most;
     start = r .b;
     step = omega (arith, r .z-high, r .z-low);
     odd = r .f-odd;
@@ -126,8 +127,11 @@ module _ {n : ℕ} {c : CodeCertificate} (r : Ranged n (certificateAs c)) where
     h-lt = h-lt;
     small = r .u-high;
     few = r .L-high;
-    long = w .marks .long;
+    long = long;
   }
+
+  pub walkable-of : {sheet z : List ℕ} {reps i : ℕ} → Checkable sheet n reps i z → Walkable n c z
+  walkable-of w = walkable-ranged (omega (arith, w .n-is, w .head .most)) (w .marks .long)
 
 pub lengths : {sheet z : List ℕ} {n reps i : ℕ} → Checkable sheet n reps i z → (3 ≤ n) × (n ≤ 127)
 lengths w = (omega (arith, w .n-is, w .head .least), omega (arith, w .n-is, w .head .most))

@@ -14,7 +14,7 @@ use lib.Dec.{eqb, leb, ltb}
 use borrow.Author.Tests.{lt-ltb, le-ltb, le-leb, lt-leb, eq-eqb, ne-eqb, ltb-true, leb-true, eqb-true, eqb-false}
 use Rattle.field.specs.Mask.{coefficient}
 use Rattle.field.proofs.Search.{true-ne-false}
-use Rattle.poly.specs.Factor.{coprime, degree}
+use Rattle.masks.specs.Factor.{coprime, degree}
 use Rattle.document.specs.Sheet.{byteAt, numberAt, representativeCount, Certificate, certificate}
 use Rattle.document.specs.Certificate.{steps, ratio, extent, rule1}
 

@@ -6,7 +6,7 @@ ghost use Rattle.document.specs.Sheet.{representativeCount, certificateCount, �
 ghost use Rattle.document.specs.Certificate.{steps, ratio, extent, rule1};
 ghost use Rattle.sheet.specs.Stage.{Headed};
 ghost use Rattle.certificate.specs.Rules.{Fits, Walkable, Ruled, Checkable, certificateAs, checkedAs, checkOf, distanceIn};
-ghost use Rattle.poly.specs.Factor.{coprime, period, Modulus};
+ghost use Rattle.masks.specs.Factor.{coprime, period, Modulus};
 ghost use Rattle.field.specs.Mask.{_⊕_};
 use crate::types::Certificate;
 use crate::types::Checked;
@@ -50,7 +50,7 @@ fn wrong_steps(n: usize, c: Certificate) -> bool
     if n - 1 < c.z {
         return true;
     }
-    if poly::factor::coprime(c.z, n) {
+    if masks::factor::coprime(c.z, n) {
         return false;
     }
     true
@@ -61,7 +61,7 @@ fn wrong_ratio(c: Certificate) -> bool
     requires { ⌜ Fits c ⌝ }
     ensures { λ r. ⌜ r ≡ not (ratio (certificateAs c)) ⌝ }
 {
-    let u = poly::factor::degree(c.f);
+    let u = masks::factor::degree(c.f);
     if u < 1 {
         return true;
     }
@@ -74,7 +74,7 @@ fn wrong_ratio(c: Certificate) -> bool
     if c.h == 0 {
         return true;
     }
-    if u <= poly::factor::degree(c.h) {
+    if u <= masks::factor::degree(c.h) {
         return true;
     }
     false
@@ -114,7 +114,7 @@ pub fn wrong_range(n: usize, c: Certificate) -> bool
 }
 
 // The register of h/f after one term: its lowest coefficient is the term, and f times it is taken off before the shift.
-fn next_register(f: usize, num: usize) -> usize
+pub fn next_register(f: usize, num: usize) -> usize
     requires { ⌜ (f < 512) × (num < 256) ⌝ }
     ensures { λ r. ⌜ r ≡ (num ⊕ (num % 2) * f) / 2 ⌝ }
 {
@@ -154,7 +154,7 @@ fn wrong_period(n: usize, f: usize, u: usize) -> bool
     requires { ⌜ Modulus f u ⌝ }
     ensures { λ r. ⌜ r ≡ not (coprime (period f) n) ⌝ }
 {
-    if poly::factor::coprime(poly::factor::period(f, u), n) {
+    if masks::factor::coprime(masks::factor::period(f, u), n) {
         return false;
     }
     true
@@ -184,15 +184,15 @@ pub fn check(sheet: &[u8], n: usize, reps: usize, i: usize, zeros: &[u8]) -> Che
     if wrong_range(n, c) {
         return Checked::Refused(Refusal::Range);
     }
-    if poly::factor::common(c.f, c.h) {
+    if masks::factor::common(c.f, c.h) {
         return Checked::Refused(Refusal::CommonFactor);
     }
-    let u = poly::factor::degree(c.f);
+    let u = masks::factor::degree(c.f);
     if wrong_period(n, c.f, u) {
         return Checked::Refused(Refusal::Period);
     }
     if wrong_terms(n, c, zeros) {
         return Checked::Refused(Refusal::Term);
     }
-    Checked::Distance(distance(c.terms, u, poly::factor::degree(c.h)))
+    Checked::Distance(distance(c.terms, u, masks::factor::degree(c.h)))
 }

@@ -22,10 +22,10 @@ use Rattle.document.specs.Entry.{generatorOf}
 use Rattle.document.proofs.Acceptance.{judge-number, quiet-of}
 use Rattle.sheet.specs.Stage.{Marks, Found}
 use Rattle.binary.specs.Bits.{Holds}
-use Rattle.codeword.specs.Room.{Usable, Generated}
+use Rattle.codeword.specs.Room.{Usable, Recorded, Generated}
 use Rattle.listing.specs.Accepted.{Listable}
 use Rattle.listing.proofs.Cards.{listable-of}
-use Rattle.code.specs.Record.{Markable, Recorded}
+use Rattle.code.specs.Record.{Markable}
 use Rattle.judging.proofs.Judging.{no-marks, marks-at}
 use Rattle.code.proofs.Accepted.{judged-record, conditions}
 

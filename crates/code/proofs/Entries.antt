@@ -1,6 +1,6 @@
 -- The exits of the entries on words.
 --
---   encode-sheet, read-sheet    a refused sheet at each
+--   encode-sheet, read-sheet, decode-sheet    a refused sheet at each
 --   encode-message, encode-out, encode-spare, encode-done      the exits of encoding an accepted sheet's message
 --   read-word, read-out, read-spare, read-none, read-done      those of reading out
 use mathlib.Core.Path.{_≡_, sym, ap, ap₂, _∙_}
@@ -14,9 +14,10 @@ use Rattle.document.specs.declared.types.Refusal.{Refusal}
 use Rattle.document.specs.Answer.{returned, refused, numberOf}
 use Rattle.document.specs.Layout.{wordWeight, messageWeight, bytesFor, maskOf, bytesOf, spare}
 use Rattle.document.specs.Sheet.{codeLength}
-use Rattle.document.specs.Generator.{isCodeword, messageOf}
+use Rattle.document.specs.Generator.{isCodeword, messageOf, differences}
 use Rattle.document.specs.Judge.{dimensionOf, judgeOf}
 use Rattle.document.specs.Entry.{wrongSize, generatorOf, wordOf, encodeConditions, encodedWord, encodeOf, readConditions, readOf}
+use Rattle.document.specs.Entry.{decodedWord, decodeConditions, decodeOf}
 use Rattle.document.proofs.Acceptance.{quiet-of}
 use Rattle.document.proofs.Settled.{entry-sheet, entry-refused, entry-done, first-nil, size-wrong, size-right}
 use Rattle.document.proofs.Chain.{first-true, first-false}
@@ -155,3 +156,11 @@ module _ {sheet : List ℕ} {n k s : ℕ} (u : Usable sheet n k s) (word out : L
             same =
                 ap (λ (x : ℕ). bytesOf messageWeight k (messageOf (n - k) (maskOf wordWeight x word))) whole
                 ∙ ap₂ (λ (x y : ℕ). bytesOf messageWeight y (messageOf (x - y) (maskOf wordWeight x word))) (u .n-is) (u .k-is)
+
+-- ---- decoding
+pub decode-sheet : (sheet word out : List ℕ) (q : Refusal) → refused (numberOf q) ≡ judgeOf sheet
+    → (refused (numberOf q), out) ≡ decodeOf sheet word out
+unfolding decodeOf
+decode-sheet sheet word out q e =
+    entry-sheet sheet (decodeConditions sheet word out) (differences (codeLength sheet) (wordOf sheet word) (decodedWord sheet word) ∷ [])
+    (bytesOf wordWeight (codeLength sheet) (decodedWord sheet word)) out (numberOf q) (number-pos q) e

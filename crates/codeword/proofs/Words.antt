@@ -1,12 +1,13 @@
 -- From the parts of a word's journey to the definitions: generator, codeword test, encoding, reading out.
 --
---   lengths-of, part-end, part-rising, generated      the sheet's generator
+--   length-of, lengths-of, part-end, part-is, part-rising, generator-is, checks-is, generated      the sheet's generator
 --   degree-one, remainder-lt      it has degree m, and remainders by it have m places
+--   word-holds           the places of a word
 --   tested               the remainder of a word tells whether it is a codeword
 --   encoded              message, division, message again: the places of the codeword
 --   encoded-bytes, message-read      and packed into bytes
 --   for-most             bytes have fewer than eight spare places
---   fresh                room as the entries make it
+--   zeros, fresh         room as the entries make it
 use mathlib.Core.Path.{_≡_, refl, sym, ap, ap₂, _∙_, subst}
 use mathlib.Core.Logic.{_⊎_, inl, inr}
 use mathlib.Core.Bool.{Bool, true, false, not}
@@ -42,7 +43,7 @@ use Rattle.codeword.specs.Room.{Usable, Fresh, Generated, Tested, Encode
 
 -- ---- the generator
 module _ {sheet : List ℕ} {n k s : ℕ} (u : Usable sheet n k s) where
-  length-of : Length n
+  pub length-of : Length n
   length-of = subst Length (sym (u .n-is)) (headed-length (u .head))
 
   pub lengths-of : Lengths n s
@@ -55,7 +56,7 @@ module _ {sheet : List ℕ} {n k s : ℕ} (u : Usable sheet n k s) where
   pub part-end : {r : ℕ} → r ≡ byteAt sheet 3 → 10 + r ≤ length sheet
   part-end e = omega (arith, count-is e, u .head .long)
 
-  part-is : {r : ℕ} → r ≡ byteAt sheet 3 → take (10 + r - 10) (drop 10 sheet) ≡ representatives sheet
+  pub part-is : {r : ℕ} → r ≡ byteAt sheet 3 → take (10 + r - 10) (drop 10 sheet) ≡ representatives sheet
   unfolding representatives
   part-is {r} e =
       let q : 10 + r - 10 ≡ representativeCount sheet = omega (arith, count-is e) in ap (λ (x : ℕ). take x (drop 10 sheet)) q
@@ -63,11 +64,11 @@ module _ {sheet : List ℕ} {n k s : ℕ} (u : Usable sheet n k s) where
   pub part-rising : {r : ℕ} → r ≡ byteAt sheet 3 → Rising n (take (10 + r - 10) (drop 10 sheet))
   part-rising e = subst (Rising n) (sym (part-is e)) (u .rising)
 
-  generator-is : generator n (representatives sheet) ≡ generatorOf sheet
+  pub generator-is : generator n (representatives sheet) ≡ generatorOf sheet
   unfolding generatorOf
   generator-is = ap (λ (m : ℕ). generator m (representatives sheet)) (u .n-is)
 
-  checks-is : n - dimension n (representatives sheet) ≡ n - dimensionOf sheet
+  pub checks-is : n - dimension n (representatives sheet) ≡ n - dimensionOf sheet
   unfolding dimensionOf
   checks-is = ap (λ (m : ℕ). n - dimension m (representatives sheet)) (u .n-is)
 
@@ -118,6 +119,11 @@ module _ {sheet : List ℕ} {n k s : ℕ} (u : Usable sheet n k s) where
         not-not true e = refl
         not-not false e = sym e
 
+-- ---- a word's places
+pub word-holds : (n : ℕ) {word w w₁ : List ℕ} → Spread wordWeight 0 0 n word w w₁ → Holds 0 w → Holds (maskOf wordWeight n word) w₁
+word-holds n {word} {w} {w₁} a z =
+    subst (λ (x : ℕ). Holds x w₁) (div-one (maskOf wordWeight n word)) (spread-part {from = 0} {count = n} (omega arith) a z)
+
 -- ---- encoding
 pub encoded : {n k m : ℕ} {message g w w₁ w₂ w₃ : List ℕ} → m + k ≡ n → Spread messageWeight 0 m k message w w₁ → Divided n m g w₁ w₂
     → Spread messageWeight 0 m k message w₂ w₃ → Encoded n k m message g w w₃
@@ -156,7 +162,7 @@ unfolding messageOf
 message-read {m} {k} {word} a p z long bytes = record { is = packed-is message-weights k p (spread-part refl a z) long bytes }
 
 -- ---- room
-zeros : (m : ℕ) → Holds 0 (replicate m 0)
+pub zeros : (m : ℕ) → Holds 0 (replicate m 0)
 zeros m = record { at = λ i. go i (le-or-lt m i) ∙ sym (coefficient-zero i) }
   where
     go : (i : ℕ) → (m ≤ i) ⊎ (i < m) → _≡_ {A = ℕ} (getD (replicate m 0) i 0) 0

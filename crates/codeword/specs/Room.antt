@@ -1,6 +1,7 @@
 -- What the entries on words pass to their parts. No entry's contract cites this file.
 --
 --   Usable sheet n k s      an accepted sheet with its numbers
+--   Recorded sheet working t     and which certificate works, with its t
 --   Fresh n g p w           room for a code of length n: g holds 1, and w holds 0
 --   Generated sheet n m g w      g holds the sheet's generator, of degree m, and w holds 0
 --   Encodable, Encoded      lengths of message and codeword, and what the codeword's places are
@@ -16,7 +17,8 @@ use Rattle.document.specs.Sheet.{codeLength, representatives}
 use Rattle.document.specs.Answer.{firstOf}
 use Rattle.document.specs.Layout.{wordWeight, messageWeight, bytesFor, maskOf, bytesOf}
 use Rattle.document.specs.Generator.{isCodeword, encodeMask, messageOf}
-use Rattle.document.specs.Judge.{judgeConditions, dimensionOf}
+use Rattle.document.specs.Certificate.{radius}
+use Rattle.document.specs.Judge.{judgeConditions, dimensionOf, workingOf, workingCertificate}
 use Rattle.document.specs.Entry.{generatorOf, wordOf}
 use Rattle.sheet.specs.Stage.{Headed}
 use Rattle.binary.specs.Bits.{Holds}
@@ -31,6 +33,10 @@ pub record Usable (sheet : List ℕ) (n k s : ℕ) : Type 0 where
   pub k-pos : 1 ≤ k
   pub k-le : k ≤ n
   pub rising : Rising n (representatives sheet)
+
+pub record Recorded (sheet : List ℕ) (working t : ℕ) : Type 0 where
+  pub working-is : working ≡ workingOf sheet
+  pub t-is : t ≡ radius (workingCertificate sheet)
 
 pub record Fresh (n : ℕ) (g p w : List ℕ) : Type 0 where
   pub one : Holds 1 g

@@ -2,6 +2,7 @@
 -- representatives, and any certificate that meets rules 1 to 4.
 --
 --   distance-holds      different codewords differ in at least d places
+--   near                a codeword within t is near in the theory's words
 --   near-only           at most one codeword lies within t of a word
 --   nearest-some        what `nearest` finds is a codeword within t
 --   nearest-is          a codeword within t is what it finds
@@ -79,7 +80,7 @@ module _ {n : ℕ} (l : Length n) (reps : List ℕ) (c : Certificate) (s : Sound
       (distance-bound (syndromes (theory l reps c s)) a b (x .small) (y .small) (codeword-iff l reps a .0 (x .is))
       (codeword-iff l reps b .0 (y .is)) ne))
 
-  near : {r a : ℕ} → Word a → differences n r a ≤ t → Near (codeOf l reps) (radius-of (syndromes (theory l reps c s))) r a
+  pub near : {r a : ℕ} → Word a → differences n r a ≤ t → Near (codeOf l reps) (radius-of (syndromes (theory l reps c s))) r a
   near {r} {a} x h = record {
     small = x .small;
     word = codeword-iff l reps a .0 (x .is);

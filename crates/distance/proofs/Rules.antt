@@ -1,9 +1,10 @@
 -- The rules of a certificate in the theory's words.
 --
---   digits-are        the terms of h/f are the theory's digits
+--   register-digit    the terms of h/f are the theory's digits
 --   no-factor         coprime numbers have no factor in common
 --   mask-divides, no-common      nor have masks for which `common` says no
 --   Sound n reps c    a certificate that meets rules 1 to 4; sound-of: on a sheet
+--   covered-here      rule 4 term by term
 --   theory            it is one of the theory, over the code of n and reps: distance-is, radius-is
 use mathlib.Core.Path.{_≡_, refl, sym, ap, ap₂, _∙_}
 use mathlib.Core.Logic.{_≢_, _⊎_, inl, inr}
@@ -20,10 +21,10 @@ use Rattle.field.specs.Mask.{_⊕_, clmul, size, remainder}
 use Rattle.field.proofs.Search.{true-ne-false, some-none, every-at}
 use Rattle.field.proofs.Xor.{digit-lt}
 use Rattle.field.proofs.Product.{size-lt, digit-mul, clmul-zero-l}
-use Rattle.poly.specs.Factor.{coprime, degree, divides, common, period, terms, Modulus}
-use Rattle.poly.proofs.Degree.{degree-top}
-use Rattle.poly.proofs.Period.{period-divides}
-use Rattle.poly.proofs.Series.{register, register-z, register-s, terms-at}
+use Rattle.masks.specs.Factor.{coprime, degree, divides, common, period, terms, Modulus}
+use Rattle.masks.proofs.Degree.{degree-top}
+use Rattle.masks.proofs.Period.{period-divides}
+use Rattle.masks.proofs.Series.{register, register-z, register-s, terms-at}
 use Rattle.cyclic.proofs.Division.{_∣ₘ_, divides-iff}
 use Rattle.cyclic.proofs.NumberGcd.{NoFactor}
 use Rattle.cyclic.proofs.MaskGcd.{NoCommon, divisor-le}
@@ -47,13 +48,13 @@ register-on f h zero =
 register-on f h (suc j) =
     register-s f h (suc j) ∙ ap (λ (r : ℕ). (r ⊕ (r % 2) * f) / 2) (register-on f h j) ∙ sym (register-s f (next f h) j)
 
-register-digit : (f h j : ℕ) → register f h j % 2 ≡ digits f h j
+pub register-digit : (f h j : ℕ) → register f h j % 2 ≡ digits f h j
 register-digit f h zero = ap (λ (r : ℕ). r % 2) (register-z f h) ∙ sym (digits-z f h)
 register-digit f h (suc j) =
     ap (λ (r : ℕ). r % 2) (register-on f h j) ∙ register-digit f (next f h) j ∙ sym (digits-s f h j)
 
 -- ---- factors
-no-factor : (a b : ℕ) → 0 < b → coprime a b ≡ true → NoFactor b a
+pub no-factor : (a b : ℕ) → 0 < b → coprime a b ≡ true → NoFactor b a
 unfolding coprime
 no-factor a b h e d x y = go (decLt d 2)
   where
@@ -78,7 +79,7 @@ mask-divides : (d a : ℕ) → 0 < d → d ∣ₘ a → divides d a ≡ true
 unfolding divides
 mask-divides d a h w = eq-eqb (remainder (degree d) d a) 0 (divides-iff (degree d) d (degree-top d h) a .0 w)
 
-divides-mask : (d a : ℕ) → 0 < d → divides d a ≡ true → d ∣ₘ a
+pub divides-mask : (d a : ℕ) → 0 < d → divides d a ≡ true → d ∣ₘ a
 unfolding divides
 divides-mask d a h e = divides-iff (degree d) d (degree-top d h) a .1 (eqb-true (remainder (degree d) d a) 0 e)
 
@@ -132,24 +133,24 @@ module _ {n : ℕ} (l : Length n) (reps : List ℕ) (c : Written) (s : Sound n r
   pub in-range : Ranged n c
   in-range = ranged n c (ap not (s .range))
 
-  f-pos : 0 < c .f
+  pub f-pos : 0 < c .f
   f-pos = let o : c .f % 2 ≡ 1 = in-range .f-odd in omega arith
 
-  h-pos : 0 < c .h
+  pub h-pos : 0 < c .h
   h-pos = let o : c .h ≢ 0 = in-range .h in omega arith
 
-  modulus : Modulus (c .f) (degree (c .f))
+  pub modulus : Modulus (c .f) (degree (c .f))
   modulus = record { is = refl; lo = in-range .u-low; hi = in-range .u-high; odd = in-range .f-odd }
 
-  no-common-here : NoCommon (c .f) (c .h)
+  pub no-common-here : NoCommon (c .f) (c .h)
   unfolding rule2
   no-common-here = no-common (c .f) (c .h) f-pos (not-true _ (s .factor))
 
-  period-here : NoFactor n (period (c .f))
+  pub period-here : NoFactor n (period (c .f))
   unfolding rule3
   period-here = no-factor (period (c .f)) n (omega (arith, l .odd .least)) (s .period-coprime)
 
-  covered-here : (j : ℕ) → j < c .L → (digits (c .f) (c .h) j ≡ 0) ⊎ T (inSet n reps ((c .b + j * c .z) % n))
+  pub covered-here : (j : ℕ) → j < c .L → (digits (c .f) (c .h) j ≡ 0) ⊎ T (inSet n reps ((c .b + j * c .z) % n))
   unfolding rule4
   covered-here j h =
       let a : List ℕ = terms (c .f) (c .h) (c .L) in
@@ -159,7 +160,7 @@ module _ {n : ℕ} (l : Length n) (reps : List ℕ) (c : Written) (s : Sound n r
         | inr e ↦ inr (T-of e)
       ]
 
-  pub theory : Certificate (codeOf l reps)
+  unfoldable pub theory : Certificate (codeOf l reps)
   theory = record {
     b = c .b;
     z = c .z;

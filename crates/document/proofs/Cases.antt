@@ -15,7 +15,7 @@ use lib.ListN.{length, getD, set, replicate}
 use Rattle.field.specs.Search.{leastFrom, least, upTo, keep, some, every, total}
 use Rattle.field.specs.Mask.{_⊕_, size, productBelow, clmul, divideDown, remainder}
 use Rattle.field.specs.Field.{masks, mask, fieldMultiply, fieldPower, α, orderOfTwo}
-use Rattle.poly.specs.Factor.{coprime, degree, divides, common, period, terms}
+use Rattle.masks.specs.Factor.{coprime, degree, divides, common, period, terms}
 use Rattle.document.specs.Answer.{Answer, firstOf, settle}
 use Rattle.document.specs.Layout.{wordWeight, messageWeight, bytesFor, place, maskOf, byteOf, bytesOf, spare}
 use Rattle.document.specs.Sheet.{statedLength, codeLength, representativeCount, representativesAt, certificateCount, zeroOf}

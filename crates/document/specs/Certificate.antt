@@ -11,7 +11,7 @@ use lib.Dec.{eqb, leb, ltb}
 use lib.ListN.{getD}
 use Rattle.field.specs.Search.{least, upTo, every}
 use Rattle.field.specs.Mask.{coefficient}
-use Rattle.poly.specs.Factor.{coprime, degree, common, period, terms}
+use Rattle.masks.specs.Factor.{coprime, degree, common, period, terms}
 use Rattle.document.specs.Sheet.{Certificate}
 use Rattle.document.specs.Coset.{inSet}
 

@@ -3,20 +3,28 @@
 --   replied            a reply that is one of its cases
 --   coded-refused      a refusal's code is minus its number
 --   encode-done, read-done      what encoding and reading out return is 0
+--   decode-fits, decode-done    what decoding returns is at most n, and so a number of 32 bits
 use mathlib.Core.Path.{_≡_, refl, sym, ap, _∙_}
 use mathlib.Core.List.{List, [], _∷_}
-use Prim.Native.Nat.{ℕ, zero, suc, _<_}
+use Prim.Native.Nat.{ℕ, zero, suc, _+_, _/_, _^_, _≤_, _<_}
 use native.Mathlib.Omega.{arith}
 use lib.IntN.{ℤ, pos, negℤ}
 use lib.ListN.{getD}
 use mir.Syntax.{w32}
-use mir.Val.{toZ, ofZ}
+use mir.Val.{SFits, toZ, ofZ}
+use mir.ValLaws.{toZ-pos}
 use Rattle.document.specs.declared.types.Refusal.{Refusal}
 use Rattle.document.specs.declared.types.Refusal.the-variants.{SheetLength, CodeLength, FieldDegree, Header, Representative, NoMessage, Range}
 use Rattle.document.specs.declared.types.Refusal.the-variants.{CommonFactor, Period, Term, BufferLength, SpareBit, NoneNear, NoCodeword}
 use Rattle.document.specs.declared.types.Reply.{Reply}
 use Rattle.document.specs.Answer.{Answer, returned, refused, numberOf, repliedAs, settle}
-use Rattle.document.specs.Entry.{encodeOf, readOf}
+use Rattle.document.specs.Sheet.{codeLength}
+use Rattle.document.specs.Generator.{differences}
+use Rattle.document.specs.Entry.{encodeOf, readOf, wordOf, decodedWord, decodeOf}
+use Rattle.field.specs.Mask.{_⊕_}
+use Rattle.field.proofs.Xor.{digit-lt}
+use Rattle.cyclic.proofs.Places.{count, count-z, count-s}
+use Rattle.distance.proofs.Distance.{differences-are}
 use Rattle.judging.proofs.Weighing.{number-pos}
 use Rattle.dunefork.specs.Codes.{codeFor, codedAs}
 
@@ -73,3 +81,23 @@ pub read-done : (sheet word out : List ℕ) {n : ℕ} {o : List ℕ} → (return
     → (pos 0, o) ≡ codedAs (readOf sheet word out)
 unfolding readOf
 read-done sheet word out {n} e = coded-done (settled _ n 0 _ _ _ e) e
+
+-- ---- decoding
+count-le : (n e : ℕ) → count n e ≤ n
+count-le zero e = omega (arith, count-z e)
+count-le (suc n) e = omega (arith, count-s n e, count-le n e, digit-lt (e / 2 ^ n))
+
+changed-le : (sheet word out : List ℕ) {m : ℕ} {o : List ℕ} → (returned (m ∷ []), o) ≡ decodeOf sheet word out → m ≤ codeLength sheet
+unfolding decodeOf
+changed-le sheet word out {m} e =
+    let n : ℕ = codeLength sheet in
+    let v : m ≡ differences n (wordOf sheet word) (decodedWord sheet word) = settled _ m _ _ _ _ e in
+    omega (arith, v, differences-are n (wordOf sheet word) (decodedWord sheet word), count-le n (wordOf sheet word ⊕ decodedWord sheet word))
+
+pub decode-fits : (sheet word out : List ℕ) {m : ℕ} {o : List ℕ} → getD sheet 2 0 < 256 → (returned (m ∷ []), o) ≡ decodeOf sheet word out
+    → SFits w32 (pos m)
+unfolding codeLength
+decode-fits sheet word out h e = record { sfits = omega (arith, changed-le sheet word out e) }
+
+pub decode-done : {m : ℕ} {o : List ℕ} {a : Answer × List ℕ} → SFits w32 (pos m) → (returned (m ∷ []), o) ≡ a → (toZ w32 m, o) ≡ codedAs a
+decode-done {m} {o} h e = ap (λ (x : ℤ). (x, o)) (toZ-pos w32 m (h .sfits) ∙ sym (code-of m)) ∙ ap codedAs e

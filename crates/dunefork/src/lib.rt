@@ -2,7 +2,7 @@
 ghost use mathlib.Core.Path.{_≡_};
 ghost use lib.IntN.{pos, negℤ};
 ghost use Rattle.document.specs.Answer.{numberOf};
-ghost use Rattle.document.specs.Entry.{encodeOf, readOf};
+ghost use Rattle.document.specs.Entry.{encodeOf, readOf, decodeOf};
 ghost use Rattle.dunefork.specs.Codes.{codedAs};
 use document::types::Refusal;
 use document::types::Reply;
@@ -49,6 +49,18 @@ pub extern "C" fn dunefork_read(sheet: &[u8], word: &[u8], out: &mut [u8]) -> i3
     let reply = code::read::read(sheet, word, out);
     match reply {
         Reply::Done(_) => 0,
+        Reply::Refused(r) => refusal_code(r),
+    }
+}
+
+// The codeword within t places of a received word into out; how many places changed.
+#[no_mangle]
+pub extern "C" fn dunefork_decode(sheet: &[u8], word: &[u8], out: &mut [u8]) -> i32
+    ensures { λ r. ⌜ (r, now (out .exit)) ≡ codedAs (decodeOf (now (sheet .entry)) (now (word .entry)) (now (out .entry))) ⌝ }
+{
+    let reply = code::decode::decode(sheet, word, out);
+    match reply {
+        Reply::Done(m) => m as i32,
         Reply::Refused(r) => refusal_code(r),
     }
 }

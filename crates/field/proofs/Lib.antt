@@ -1,4 +1,4 @@
--- Laws, in reading order: search, masks, the field of a degree, the order of two, the tables.
+-- Laws, in reading order: search, masks, the field of a degree, the order of two.
 pub mod Search
 pub mod Xor
 pub mod Horner
@@ -11,4 +11,3 @@ pub mod Value
 pub mod Numbers
 pub mod Shifts
 pub mod OrderOfTwo
-pub mod Fill

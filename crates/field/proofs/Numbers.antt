@@ -2,12 +2,12 @@
 --
 --   multiply-lt, product-lt, power-lt      results are elements
 --   multiply-comm, multiply-assoc, multiply-zero, zero-multiply, multiply-one      of products
---   el-power, el-root             a power is the power of the element, and α is the theory's root
+--   el-power, el-root, el-ne      a power is the power of the element, α is the theory's root, and only 0 is 0
 --   power-z, power-s, power-add   of exponents
 --   power-order, power-round      ω^(2^s - 1) = 1, and so round and round
 --   power-inj, power-onto, power-ne      the powers of ω below that are different, and are all elements but 0
 --   logarithm-of, logarithm-lt, logarithm-is, logarithm-zero      the exponent of an element, and 2^s - 1 for 0
---   inverses-zero, inverses-of    0 has no inverse, and every other element has one: its power 2^s - 2
+--   inverses-zero, inverses-of, inverses-by, inverse-is      0 has no inverse; every other element has one: its power 2^s - 2
 use mathlib.Core.Path.{_≡_, refl, sym, ap, ap₂, _∙_, subst}
 use mathlib.Core.Logic.{_≢_}
 use mathlib.Core.List.{List, [], _∷_}
@@ -110,7 +110,7 @@ module _ {s : ℕ} (d : Degree s) where
   power-inj i j hi hj e = pow-inj (GF d) (gen d) (2 ^ s - 1) (gen-order d) i j hi hj (sym (gen-is i) ∙ ap (el d) e ∙ gen-is j)
 
   -- every element but 0 is one
-  el-ne : (a : ℕ) → a < 2 ^ s → a ≢ 0 → el d a ≢ GF d .𝟘
+  pub el-ne : (a : ℕ) → a < 2 ^ s → a ≢ 0 → el d a ≢ GF d .𝟘
   el-ne a h n e = n (by-el h (omega (arith, one-lt)) (e ∙ sym (el-zero d)))
 
   pub power-onto : (a : ℕ) → a < 2 ^ s → a ≢ 0 → (k : ℕ) × (k < 2 ^ s - 1) × (fieldPower s ω k ≡ a)
@@ -159,7 +159,7 @@ module _ {s : ℕ} (d : Degree s) where
       keep-none (λ x. eqb (fieldMultiply s 0 x) 1) (2 ^ s)
       (λ k h. ne-eqb (fieldMultiply s 0 k) 1 (λ e. let z : fieldMultiply s 0 k ≡ 0 = zero-multiply k in omega arith))
 
-  inverse-is : (a : ℕ) → a < 2 ^ s → a ≢ 0 → fieldMultiply s a (fieldPower s a (2 ^ s - 2)) ≡ 1
+  pub inverse-is : (a : ℕ) → a < 2 ^ s → a ≢ 0 → fieldMultiply s a (fieldPower s a (2 ^ s - 2)) ≡ 1
   inverse-is a h n =
       by-el (multiply-lt a (fieldPower s a (2 ^ s - 2))) one-lt
       (el-mul d a (fieldPower s a (2 ^ s - 2)) ∙ ap (λ x. GF d .mul (el d a) x) (el-power a (2 ^ s - 2))
@@ -177,3 +177,9 @@ module _ {s : ℕ} (d : Degree s) where
       keep-one (λ x. eqb (fieldMultiply s a x) 1) (2 ^ s) x (power-lt a (2 ^ s - 2))
       (eq-eqb (fieldMultiply s a x) 1 (inverse-is a h n))
       (λ k l q. ne-eqb (fieldMultiply s a k) 1 (λ e. q (inverse-unique a k x l (power-lt a (2 ^ s - 2)) e (inverse-is a h n))))
+
+  -- what gives 1 with a is the inverse
+  pub inverses-by : (a x : ℕ) → a < 2 ^ s → a ≢ 0 → x < 2 ^ s → fieldMultiply s a x ≡ 1 → x ∷ [] ≡ inverses s a
+  inverses-by a x h n l e =
+      ap (λ (y : ℕ). y ∷ []) (inverse-unique a x (fieldPower s a (2 ^ s - 2)) l (power-lt a (2 ^ s - 2)) e (inverse-is a h n))
+      ∙ sym (inverses-of a h n)

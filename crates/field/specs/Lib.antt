@@ -1,4 +1,3 @@
 pub mod Search
 pub mod Mask
 pub mod Field
-pub mod Tables

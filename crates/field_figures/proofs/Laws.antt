@@ -9,7 +9,7 @@ use native.Mathlib.Nat.{pow-suc}
 use native.Mathlib.Omega.{arith}
 use lib.ListN.{length}
 use Rattle.field.specs.Field.{Degree, OddLength}
-use Rattle.field.specs.Tables.{Room}
+use Rattle.tables.specs.Tables.{Room}
 use Rattle.field.proofs.Primitive.{Degree-bounds}
 
 pub room : {s : ℕ} {e g : List ℕ} → Degree s → 16380 ≤ length e → 4096 ≤ length g → Room s e g

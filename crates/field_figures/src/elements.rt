@@ -2,7 +2,7 @@
 ghost use Prim.Native.Nat.{_-_, _^_, _<_, _≤_};
 ghost use lib.ListN.{length};
 ghost use Rattle.field.specs.Field.{Degree};
-ghost use Rattle.field.specs.Tables.{Tables};
+ghost use Rattle.tables.specs.Tables.{Tables};
 use crate::checksum::add;
 use crate::checksum::size;
 use field::degree::order_of_two;
@@ -26,7 +26,7 @@ pub fn powers(s: usize, e: &[u16]) -> u64
 fn log(s: usize, a: u16, e: &[u16], g: &[u16]) -> u16
     requires { ⌜ Tables s (now e) (now g) × (0 < a) × (a < 2 ^ s) ⌝ }
 {
-    field::tables::log(s, a, e, g) as u16
+    tables::product::log(s, a, e, g) as u16
 }
 
 // The logarithms of all elements but 0.

@@ -29,7 +29,7 @@ fn product_sums(s: usize) -> Sums
 {
     let mut e = [0u16; 16380];
     let mut g = [0u16; 4096];
-    field::tables::fill(s, &mut e, &mut g);
+    tables::fill::fill(s, &mut e, &mut g);
     if s <= 8 {
         products::all(s, &e, &g)
     } else {
@@ -58,7 +58,7 @@ fn table_sums(s: usize) -> TableSums
 {
     let mut e = [0u16; 16380];
     let mut g = [0u16; 4096];
-    field::tables::fill(s, &mut e, &mut g);
+    tables::fill::fill(s, &mut e, &mut g);
     TableSums {
         powers: elements::powers(s, &e),
         logs: elements::logs(s, &e, &g),

@@ -2,7 +2,7 @@
 // those of a sample.
 ghost use Prim.Native.Nat.{_^_, _<_};
 ghost use Rattle.field.specs.Field.{Degree};
-ghost use Rattle.field.specs.Tables.{Tables};
+ghost use Rattle.tables.specs.Tables.{Tables};
 ghost use Rattle.field_figures.specs.Sums.{Below};
 use crate::checksum::add;
 use crate::checksum::size;
@@ -18,7 +18,7 @@ fn with_product(s: usize, a: u16, b: u16, h: Sums, e: &[u16], g: &[u16]) -> Sums
 {
     Sums {
         shifts: add(h.shifts, field::arithmetic::multiply(s, a, b)),
-        tables: add(h.tables, field::tables::multiply(s, a, b, e, g)),
+        tables: add(h.tables, tables::product::multiply(s, a, b, e, g)),
     }
 }
 

@@ -1,7 +1,5 @@
--- Laws, in reading order: degrees, divisors of numbers and of masks, the period, coefficients of products, power series.
-pub mod Degree
-pub mod Coprime
-pub mod Common
-pub mod Period
-pub mod Coefficient
-pub mod Series
+-- Laws: slices as polynomials, sums in place, division with cofactors, and the rows of Euclid's algorithm in four slices.
+pub mod Slices
+pub mod Adding
+pub mod Reducing
+pub mod State

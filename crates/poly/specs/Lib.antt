@@ -1,1 +1,3 @@
-pub mod Factor
+pub mod Slice
+pub mod Division
+pub mod Key

@@ -1,2 +1,4 @@
-// Polynomials: masks over two elements as numbers, and polynomials over the field in slices.
-pub mod factor;
+// Polynomials over the field in lent slices: Euclid's algorithm on x^L and the syndromes, which solves the key equation.
+pub mod euclid;
+mod row;
+pub mod types;

@@ -11,7 +11,7 @@ use Prim.Native.Nat.{ℕ, _+_, _*_, _%_, _≤_, _<_}
 use lib.Dec.{ltb}
 use lib.ListN.{length, getD}
 use Rattle.field.specs.Field.{orderOfTwo}
-use Rattle.poly.specs.Factor.{degree}
+use Rattle.masks.specs.Factor.{degree}
 use Rattle.document.specs.Sheet.{codeLength, representativeCount, representatives, certificateCount}
 use Rattle.document.specs.Coset.{inCoset, smallest, inSet}
 use Rattle.document.specs.Judge.{wrongRepresentative}

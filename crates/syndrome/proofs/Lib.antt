@@ -2,3 +2,4 @@
 pub mod Values
 pub mod Squares
 pub mod Computing
+pub mod Terms

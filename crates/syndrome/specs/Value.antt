@@ -6,16 +6,18 @@
 --   valueOf n s c i         the value of c at α^i
 --   Spreadable, Spread      values along a coset: what it needs, and leaves
 --   Computable, Computed    the same for all of D
+--   Testable, Tested        whether a word is a codeword, by its values at the representatives
 use mathlib.Core.Path.{_≡_}
-use mathlib.Core.Bool.{true}
+use mathlib.Core.Bool.{Bool, true}
 use mathlib.Core.List.{List}
 use Prim.Native.Nat.{ℕ, _-_, _*_, _%_, _^_, _≤_, _<_}
 use lib.ListN.{length, getD}
 use Rattle.field.specs.Mask.{_⊕_}
 use Rattle.field.specs.Field.{Degree, OddLength, orderOfTwo, ω, α, fieldPower}
-use Rattle.field.specs.Tables.{Powers, Tables}
+use Rattle.tables.specs.Tables.{Powers, Tables}
 use Rattle.document.specs.Coset.{inSet}
-use Rattle.document.specs.Generator.{valueBelow, valueAt}
+use Rattle.document.specs.Coset.{dimension}
+use Rattle.document.specs.Generator.{valueBelow, valueAt, generator, isCodeword}
 use Rattle.binary.specs.Bits.{Holds}
 
 pub record Valuable (n s by : ℕ) (w e : List ℕ) : Type 0 where
@@ -62,3 +64,16 @@ pub record Computable (n s : ℕ) (w reps e g val : List ℕ) : Type 0 where
 
 pub record Computed (n s : ℕ) (w reps val : List ℕ) : Type 0 where
   pub at : (c : ℕ) → Holds c w → c < 2 ^ n → (i : ℕ) → inSet n reps i ≡ true → getD val i 0 ≡ valueOf n s c i
+
+-- ---- the representatives only
+pub record Testable (n s : ℕ) (w reps e : List ℕ) : Type 0 where
+  pub odd : OddLength n
+  pub s-is : s ≡ orderOfTwo n
+  pub w-long : n ≤ length w
+  pub below : (k : ℕ) → k < length reps → getD reps k 0 < n
+  pub degree : Degree s
+  pub e-long : 2 ^ s - 1 ≤ length e
+  pub powers : Powers s (2 ^ s - 1) e
+
+pub record Tested (n : ℕ) (w reps : List ℕ) (r : Bool) : Type 0 where
+  pub is : (c : ℕ) → Holds c w → c < 2 ^ n → r ≡ isCodeword (n - dimension n reps) (generator n reps) c

@@ -3,7 +3,7 @@ ghost use Rattle.syndrome.specs.Value.{Spreadable, Spread, Computable, C
 use crate::value::value;
 use field::arithmetic::order;
 use field::degree::twice;
-use field::tables::multiply;
+use tables::product::multiply;
 
 // From the value v at α^r, the values at α^(2r), α^(4r), .. in s turns.
 pub fn spread(n: usize, s: usize, r: usize, v: u16, e: &[u16], g: &[u16], val: &mut [u16])

@@ -2,7 +2,7 @@
 use mathlib.Core.Path.{sym, ap, _∙_}
 use mathlib.Core.Bool.{not}
 use Prim.Native.Nat.{ℕ}
-use Rattle.poly.specs.Factor.{coprime}
+use Rattle.masks.specs.Factor.{coprime}
 use borrow.Author.Needs.{needs}
 use Rattle.certificate.proofs.check.wrong_period.Statement.{statement}
 use Rattle.certificate.proofs.check.wrong_period.Tie as tie

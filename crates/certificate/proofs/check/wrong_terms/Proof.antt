@@ -18,7 +18,7 @@ loop-holds c = let p = c .before .pre in (p, going-start p, omega arith)
 
 shared-slice-read-if2 : tie.Need-shared-slice-read-if2 Inv-loop μ-loop
 shared-slice-read-if2 c =
-    let v = c .before .before .before .loop .inv in let l = at-lt (v .0) (v .1) in omega (arith, l, v .0 .long)
+    let v = c .before .before .before .loop .inv in let l = at-lt (v .0) (v .1 .now) in omega (arith, l, v .0 .long)
 
 cast-if2 : tie.Need-cast-if2 Inv-loop μ-loop
 cast-if2 c = omega (arith, c .shared-slice-known2 .given (c .before .before .before .loop .at))
@@ -27,10 +27,10 @@ returns : tie.Need-returns Inv-loop μ-loop
 returns c = let v = c .before .before .before .before .loop .inv in going-wrong (v .0) (v .1) (omega arith) (c .if2 .taken)
 
 next-register-requires : tie.Need-next-register-requires Inv-loop μ-loop
-next-register-requires c κs = let v = c .before .before .before .before .loop .inv in (f-fits (v .0) (v .1), num-lt (v .0) (v .1))
+next-register-requires c κs = let v = c .before .before .before .before .loop .inv in (f-fits (v .0), num-lt (v .0) (v .1 .now))
 
 step-requires : tie.Need-step-requires Inv-loop μ-loop
-step-requires c κs = let v = c .before .before .before .before .before .loop .inv in (at-lt (v .0) (v .1), v .0 .step, omega (arith, v .0 .most))
+step-requires c κs = let v = c .before .before .before .before .before .loop .inv in (at-lt (v .0) (v .1 .now), v .0 .step, omega (arith, v .0 .most))
 
 add-j : tie.Need-add-j Inv-loop μ-loop
 add-j c = omega arith

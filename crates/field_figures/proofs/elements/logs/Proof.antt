@@ -2,7 +2,7 @@
 use borrow.Author.Needs.{needs}
 use mathlib.Core.Path.{_≡_}
 use Prim.Native.Nat.{_-_, _^_, _≤_, _<_}
-use Rattle.field.specs.Tables.{Tables}
+use Rattle.tables.specs.Tables.{Tables}
 use Rattle.field_figures.proofs.elements.logs.Statement.{statement}
 use Rattle.field_figures.proofs.elements.logs.Tie as tie
 

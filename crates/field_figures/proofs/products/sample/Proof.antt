@@ -1,7 +1,7 @@
 -- `field_figures::products::sample` meets its contract: the checksums stay below their modulus, and the state below 2^32.
 use borrow.Author.Needs.{needs}
 use Prim.Native.Nat.{_-_, _≤_, _<_}
-use Rattle.field.specs.Tables.{Tables}
+use Rattle.tables.specs.Tables.{Tables}
 use Rattle.field_figures.specs.Sums.{Below}
 use Rattle.field_figures.proofs.products.sample.Statement.{statement}
 use Rattle.field_figures.proofs.products.sample.Tie as tie

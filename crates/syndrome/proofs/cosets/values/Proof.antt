@@ -6,7 +6,7 @@ use Prim.Native.Nat.{ℕ, _-_, _/_, _^_, _≤_}
 use lib.ListN.{length}
 use lib.Pow.{pow-mono}
 use Rattle.syndrome.specs.Value.{Computable}
-use Rattle.syndrome.proofs.Computing.{Computing, computing-start, computing-more, computing-end, valuable, spreadable, value-here}
+use Rattle.syndrome.proofs.Computing.{Computing, computing-start, computing-more, computing-end, testable, valuable, spreadable, value-here}
 use Rattle.syndrome.proofs.cosets.values.Statement.{statement}
 use Rattle.syndrome.proofs.cosets.values.Tie as tie
 
@@ -32,13 +32,13 @@ cast-r : tie.Need-cast-r Inv-loop μ-loop
 cast-r c = omega (arith, c .shared-slice-known5 .given (c .before .before .loop .k))
 
 mul-value : tie.Need-mul-value Inv-loop μ-loop
-mul-value c = let v = c .before .before .loop .inv in let b : 2 ^ c .before .before .before .before .before .before .before .before .before .args .s ≤ 2 ^ 12 = pow-mono (v .0 .tables .degree .hi) in omega (arith, valuable (v .0) (v .1) {k = c .before .before .loop .k} (omega (arith, v .2)) refl .by-lt)
+mul-value c = let v = c .before .before .loop .inv in let b : 2 ^ c .before .before .before .before .before .before .before .before .before .args .s ≤ 2 ^ 12 = pow-mono (v .0 .tables .degree .hi) in omega (arith, valuable (testable (v .0)) (v .1) {k = c .before .before .loop .k} (omega (arith, v .2)) refl .by-lt)
 
 value-requires : tie.Need-value-requires Inv-loop μ-loop
-value-requires c κs = let v = c .before .before .loop .inv in valuable (v .0) (v .1) {k = c .before .before .loop .k} (omega (arith, v .2)) refl
+value-requires c κs = let v = c .before .before .loop .inv in valuable (testable (v .0)) (v .1) {k = c .before .before .loop .k} (omega (arith, v .2)) refl
 
 spread-requires : tie.Need-spread-requires Inv-loop μ-loop
-spread-requires c κs = let v = c .before .before .before .before .loop .inv in spreadable (v .0) (v .1) {k = c .before .before .before .before .loop .k} (omega (arith, v .2)) refl (c .before .value .ensures .lt) (v .4)
+spread-requires c κs = let v = c .before .before .before .before .loop .inv in spreadable (v .0) {k = c .before .before .before .before .loop .k} (omega (arith, v .2)) refl (c .before .value .ensures .lt) (v .4)
 
 add-k : tie.Need-add-k Inv-loop μ-loop
 add-k c = let v = c .before .before .before .before .before .before .before .loop .inv in omega (arith, v .2)
@@ -47,7 +47,7 @@ loop-less : tie.Need-loop-less Inv-loop μ-loop
 loop-less c = omega arith
 
 loop-again : tie.Need-loop-again Inv-loop μ-loop
-loop-again c = let v = c .before .before .before .before .before .before .before .loop .inv in (v .0, v .1, v .2, omega arith, omega (arith, v .4, c .before .before .spread .kept .1 .1 .1 .1 .1 .1 .0), computing-more (v .5) refl (value-here (v .0) (v .1) {k = c .before .before .before .before .before .before .before .loop .k} (omega (arith, v .2)) refl (c .before .before .before .before .value .ensures)) (c .before .before .spread .ensures))
+loop-again c = let v = c .before .before .before .before .before .before .before .loop .inv in (v .0, v .1, v .2, omega arith, omega (arith, v .4, c .before .before .spread .kept .1 .1 .1 .1 .1 .1 .0), computing-more (v .5) refl (value-here (testable (v .0)) (v .1) {k = c .before .before .before .before .before .before .before .loop .k} (omega (arith, v .2)) refl (c .before .before .before .before .value .ensures)) (c .before .before .spread .ensures))
 
 same-length : tie.Need-same-length Inv-loop μ-loop
 same-length c = c .before .loop .inv .4

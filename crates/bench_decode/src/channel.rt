@@ -1,0 +1,27 @@
+// What the channel does to a word of 127 places, and whether two words are the same.
+
+// Errors at the first ten of the places.
+pub fn add_errors(places: &[u8; 127], word: &mut [u8; 16]) {
+    for i in 0..10usize {
+        flip(places[i], word);
+    }
+}
+
+// Places are below 127, so the remainder by 16 changes nothing.
+fn flip(place: u8, word: &mut [u8; 16]) {
+    let at = wide(place) / 8 % 16;
+    word[at] = word[at] ^ (1 << (place % 8));
+}
+
+fn wide(x: u8) -> usize {
+    x as usize
+}
+
+pub fn same(a: &[u8; 16], b: &[u8; 16]) -> bool {
+    for i in 0..16usize {
+        if a[i] != b[i] {
+            return false;
+        }
+    }
+    true
+}

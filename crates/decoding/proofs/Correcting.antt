@@ -1,0 +1,325 @@
+-- The parts of correcting a word, joined.
+--
+--   computable, walkable, testable, solvable, searchable      what each part needs of what was there before
+--   stop-fits, f-small, few      t u is at most L, f below 512, L at most 1,023
+--   marked-v, marked-x      the slice that holds the locator
+--   passed-many, passed-yes, passed-no      the exits of the last test
+--   exit-many, exit-tested, passed      what they say of the received word
+--   corrected        all of it
+use mathlib.Core.Path.{_≡_, refl, sym, ap, ap₂, _∙_, subst}
+use mathlib.Core.Logic.{_↔_}
+use mathlib.Core.Bool.{Bool, true, false}
+use mathlib.Core.List.{List, [], _∷_}
+use Prim.Native.Nat.{ℕ, suc, _+_, _-_, _*_, _^_, _≤_, _<_}
+use native.Mathlib.Decide.{decLt}
+use native.Mathlib.Omega.{arith}
+use lib.ListN.{length, getD}
+use Rattle.algebra.proofs.Coprime.{Divides}
+use Rattle.algebra.proofs.Poly.{Polys}
+use Rattle.algebra.proofs.Alternant.{factor}
+use Rattle.algebra.proofs.Rows.{Done}
+use Rattle.field.specs.Mask.{_⊕_, coefficient}
+use Rattle.field.specs.Field.{Degree, orderOfTwo}
+use Rattle.field.proofs.Search.{true-ne-false}
+use Rattle.field.proofs.Xor.{⊕-lt}
+use Rattle.field.proofs.Elements.{F, GF}
+use Rattle.masks.specs.Factor.{degree as degreeOf, Modulus}
+use Rattle.cyclic.proofs.Places.{count}
+use Rattle.cyclic.proofs.Radius.{radiusOf, distanceOf, stopOf, fits}
+use Rattle.cyclic.proofs.Certificate.{syndromes}
+use Rattle.cyclic.proofs.Syndromes.{Syndromes as Theory, stop}
+use Rattle.cyclic.proofs.Decode.{Final, Located}
+use Rattle.tables.specs.Tables.{Tables}
+use Rattle.document.specs.Sheet.{Certificate}
+use Rattle.document.specs.Coset.{dimension}
+use Rattle.document.specs.Generator.{generator, isCodeword, differences}
+use Rattle.document.specs.Certificate.{radius, distance}
+use Rattle.document.proofs.Theory.{Length, degree, codeOf}
+use Rattle.certificate.specs.declared.types.Certificate.{Certificate as CodeCertificate}
+use Rattle.certificate.specs.Rules.{Walkable, certificateAs}
+use Rattle.certificate.proofs.Ranges.{Ranged}
+use Rattle.certificate.proofs.Checks.{modulus-of, walkable-ranged}
+use Rattle.certificate.proofs.Terms.{f-fits}
+use Rattle.distance.proofs.Rules.{Sound, in-range, theory}
+use Rattle.distance.proofs.Distance.{Word}
+use Rattle.binary.specs.Bits.{Holds}
+use Rattle.poly.specs.Slice.{Small, Short, series}
+use Rattle.poly.specs.Key.{Solvable, Key, Solved, Outcome}
+use Rattle.syndrome.specs.Value.{Computable, Computed, Testable, Tested}
+use Rattle.syndrome.specs.Series.{Syndromes}
+use Rattle.locating.specs.Change.{Search, Changed}
+use Rattle.decoding.specs.declared.types.Correction.{Correction}
+use Rattle.decoding.specs.declared.types.Correction.the-variants.{Places, None}
+use Rattle.decoding.specs.Correct.{Given, Searchable, Marked, Passed, Correctable, placesOf, Codeword, Corrected}
+use Rattle.decoding.proofs.Reception.{syndromes-short, syndromes-small, received}
+use Rattle.decoding.proofs.Verdict.{far-many, far-other, close-here}
+
+-- ---- numbers
+stop-fits₀ : (L u v : ℕ) → v < u → radiusOf (distanceOf L u v) * u ≤ L
+stop-fits₀ L u v h = omega (arith, fits L u v h (radiusOf (distanceOf L u v)) (omega arith))
+
+module _ {n s t : ℕ} {c : CodeCertificate} {reps : List ℕ} (p : Given n s t c reps) where
+  range : Ranged n (certificateAs c)
+  range = in-range (p .length-of) reps (certificateAs c) (p .sound)
+
+  pub stop-fits : {u : ℕ} → u ≡ degreeOf (c .f) → t * u ≤ c .terms
+  unfolding radius distance radiusOf distanceOf
+  stop-fits {u} e =
+      subst (λ (x : ℕ). x ≤ c .terms) (ap₂ _*_ (sym (p .t-is)) (sym e))
+      (stop-fits₀ (c .terms) (degreeOf (c .f)) (degreeOf (c .h)) (range .v))
+
+-- ---- what the parts need
+module _ {n s t : ℕ} {c : CodeCertificate} {reps e g val a b v x lg st lo hi w : List ℕ}
+    (p : Correctable n s t c reps e g val a b v x lg st lo hi w) where
+  pub computable : Computable n s w reps e g val
+  computable = record {
+    odd = p .given .length-of .odd;
+    s-is = p .given .s-is;
+    w-long = p .held .long;
+    val-long = p .room .val-long;
+    below = p .given .below;
+    tables = p .tables;
+  }
+
+  pub walkable : {val′ : List ℕ} → length val′ ≡ length val → Walkable n c val′
+  walkable e = walkable-ranged (range (p .given)) (p .given .most) (omega (arith, e, p .room .val-long))
+
+  pub f-small : c .f < 512
+  f-small = f-fits (walkable {val′ = val} refl)
+
+  pub few : c .terms ≤ 1023
+  few = range (p .given) .L-high
+
+  pub testable : {w′ : List ℕ} → length w′ ≡ length w → Testable n s w′ reps e
+  testable l = record {
+    odd = p .given .length-of .odd;
+    s-is = p .given .s-is;
+    w-long = omega (arith, l, p .held .long);
+    below = p .given .below;
+    degree = p .tables .degree;
+    e-long = omega (arith, p .tables .e-long);
+    powers = record { at = λ i h. p .tables .e-at i (omega (arith, p .tables .e-long)) };
+  }
+
+  pub solvable : {u : ℕ} {val′ b′ : List ℕ} → u ≡ degreeOf (c .f) → Computed n s w reps val′ → Syndromes n (certificateAs c) val′ b b′
+      → length b′ ≡ length b → Solvable s (c .terms) (c .terms - t * u) a b′ v x e g
+  solvable {u} {val′} {b′} eu y z lb = record {
+    tables = p .tables;
+    b-small = subst (λ (d : ℕ). Small d b′) (sym (p .given .s-is))
+        (syndromes-small (p .given .length-of) reps (certificateAs c) (p .given .sound)
+        (subst (λ (d : ℕ). Computed n d w reps val′) (p .given .s-is) y) z (p .room .b-zero) (p .held .holds) (p .held .small));
+    b-short =
+        syndromes-short (p .given .length-of) reps (certificateAs c) (p .given .sound)
+        (subst (λ (d : ℕ). Computed n d w reps val′) (p .given .s-is) y) z (p .room .b-zero) (p .held .holds) (p .held .small);
+    a-zero = p .room .a-zero;
+    v-zero = p .room .v-zero;
+    w-zero = p .room .x-zero;
+    stop-most = omega arith;
+    a-long = p .room .a-long;
+    b-long = omega (arith, p .room .b-long, lb);
+    v-long = p .room .v-long;
+    w-long = p .room .x-long;
+  }
+
+  module _ {u τ len : ℕ} {S v′ x′ : List ℕ} {second : Bool} (eu : u ≡ degreeOf (c .f)) (o : Outcome s (c .terms) τ S second len v′ x′)
+      (lv : length v′ ≡ length v) (lx : length x′ ≡ length x) where
+    search : {lam : List ℕ} → Solved s (c .terms) τ S lam len → (len ≤ length lg) × (len ≤ length st) × (len ≤ length lo) × (len ≤ length hi)
+        → Search n s (c .z) (c .f) u len lam e g lg st lo hi w
+    search y q = record {
+      tables = p .tables;
+      odd = p .given .length-of .odd;
+      s-is = p .given .s-is;
+      z-lo = range (p .given) .z-low;
+      z-hi = omega (arith, range (p .given) .z-high, range (p .given) .z-low);
+      modulus = modulus-of (range (p .given)) eu;
+      locator = record {
+        small = y .small;
+        short = y .short;
+        pos = y .pos;
+        lam-long = y .long;
+        lg-long = q .0;
+        st-long = q .1;
+        lo-long = q .2;
+        hi-long = q .3;
+      };
+      w-long = p .held .long;
+    }
+
+    pub searchable : Searchable n s c u second len v′ x′ e g lg st lo hi w
+    searchable = record {
+      in-v = λ q. search (o .in-v q) (
+        omega (arith, o .in-v q .long, lv, p .room .lg-long .0),
+        omega (arith, o .in-v q .long, lv, p .room .st-long .0),
+        omega (arith, o .in-v q .long, lv, p .room .lo-long .0),
+        omega (arith, o .in-v q .long, lv, p .room .hi-long .0),
+      );
+      in-x = λ q. search (o .in-w q) (
+        omega (arith, o .in-w q .long, lx, p .room .lg-long .1),
+        omega (arith, o .in-w q .long, lx, p .room .st-long .1),
+        omega (arith, o .in-w q .long, lx, p .room .lo-long .1),
+        omega (arith, o .in-w q .long, lx, p .room .hi-long .1),
+      );
+    }
+
+-- ---- the slice that holds the locator
+differ : true ≡ false → ⊥
+differ e = true-ne-false refl e
+
+module _ {n s t m : ℕ} {c : CodeCertificate} {second : Bool} {v x w w′ : List ℕ} where
+  pub marked-v : second ≡ false → Changed n s (c .z) (c .f) t v w w′ m → Marked n s t c second v x w w′ m
+  marked-v e y = record { by-v = λ _. y; by-x = λ q. absurd (differ (sym q ∙ e)) }
+
+  pub marked-x : second ≡ true → Changed n s (c .z) (c .f) t x w w′ m → Marked n s t c second v x w w′ m
+  marked-x e y = record { by-v = λ q. absurd (differ (sym e ∙ q)); by-x = λ _. y }
+
+-- ---- the last test
+module _ {n t m : ℕ} {w reps : List ℕ} where
+  pub passed-many : t < m → Passed n t m w reps None
+  passed-many h = record {
+    many = λ _. refl;
+    right = false;
+    tested = λ l. absurd (omega arith);
+    yes = λ l. absurd (omega arith);
+    no = λ l e. refl;
+  }
+
+  module _ {right : Bool} (h : m ≤ t) (y : Tested n w reps right) where
+    pub passed-yes : right ≡ true → Passed n t m w reps (Places m)
+    passed-yes e = record {
+      many = λ l. absurd (omega arith);
+      right = right;
+      tested = λ _. y;
+      yes = λ _ _. refl;
+      no = λ _ q. absurd (differ (sym e ∙ q));
+    }
+
+    pub passed-no : right ≡ false → Passed n t m w reps None
+    passed-no e = record {
+      many = λ _. refl;
+      right = right;
+      tested = λ _. y;
+      yes = λ _ q. absurd (differ (sym q ∙ e));
+      no = λ _ _. refl;
+    }
+
+-- ---- the exits, where s is the code's own degree
+module _ {n t : ℕ} {c : CodeCertificate} {reps : List ℕ} (p : Given n (orderOfTwo n) t c reps) {w w′ val b b′ lam : List ℕ} {τ len m : ℕ}
+    (values : Computed n (orderOfTwo n) w reps val) (written : Syndromes n (certificateAs c) val b b′) (fresh : Short 0 b)
+    (τ-is : τ ≡ c .terms - t * degreeOf (c .f)) (solved : Solved (orderOfTwo n) (c .terms) τ b′ lam len)
+    (marked : Changed n (orderOfTwo n) (c .z) (c .f) t lam w w′ m) where
+  abbrev l : Length n
+  l = p .length-of
+
+  abbrev C : Certificate
+  C = certificateAs c
+
+  abbrev S : Theory (codeOf l reps)
+  S = syndromes (theory l reps C (p .sound))
+
+  stop-is : τ ≡ stop S
+  unfolding theory stopOf radius distance radiusOf distanceOf
+  stop-is = τ-is ∙ ap (λ (y : ℕ). c .terms - y * degreeOf (c .f)) (p .t-is)
+
+  final : (z : Final S (series (degree l) b′)) × (z .t ≡ series (degree l) lam)
+  unfolding theory
+  final =
+      subst (λ (y : ℕ). (z : Done (GF (degree l)) (c .terms) y (series (degree l) b′)) × (z .t ≡ series (degree l) lam)) stop-is
+      (solved .key (degree l) .done, solved .key (degree l) .is)
+
+  located : Located S (final .0 .t) (marked .places)
+  unfolding theory
+  located = record {
+    small = marked .small;
+    marks = λ i.
+        subst (λ y. Divides (Polys (GF (degree l))) (factor (GF (degree l)) (S .alternant) i) y ↔ (coefficient (i .0) (marked .places) ≡ 1))
+        (sym (final .1)) (marked .means (degree l) (i .0) (i .1));
+  }
+
+  word : {y : ℕ} → Codeword n reps y → Word l reps C (p .sound) y
+  word q = record { small = q .small; is = q .is }
+
+  exit-many : t < m → Corrected n t reps w w′ None
+  exit-many h = record {
+    found = λ hr lr e. absurd (differ e);
+    none = λ {r} hr lr e x q.
+        subst (λ (y : ℕ). y < differences n r x) (sym (p .t-is))
+        (far-many l reps C (p .sound) lr (received l reps C (p .sound) values written fresh hr lr) (final .0) located
+        (subst (λ (y : ℕ). y < count n (marked .places)) (p .t-is) (marked .found .many h)) x (word q));
+  }
+    where
+      differ : {y : ℕ} → [] ≡ y ∷ [] → ⊥
+      differ e = let z : _≡_ {A = ℕ} 0 1 = ap length e in omega arith
+
+  exit-tested : {y : Bool} → m ≤ t → Tested n w′ reps y → (y ≡ true → Corrected n t reps w w′ (Places m)) × (y ≡ false → Corrected n t reps w w′ None)
+  exit-tested {y} h k = (here, other)
+    where
+      differ : {z : ℕ} → [] ≡ z ∷ [] → ⊥
+      differ e = let z : _≡_ {A = ℕ} 0 1 = ap length e in omega arith
+
+      same : {z z′ : ℕ} → z ∷ [] ≡ z′ ∷ [] → z ≡ z′
+      same e = ap (λ (q : List ℕ). getD q 0 0) e
+
+      changed : {r : ℕ} → Holds r w → Holds (r ⊕ marked .places) w′
+      changed hr = marked .found .all h .1 _ hr
+
+      says : {r : ℕ} → Holds r w → r < 2 ^ n → y ≡ isCodeword (n - dimension n reps) (generator n reps) (r ⊕ marked .places)
+      says {r} hr lr = k .is (r ⊕ marked .places) (changed hr) (⊕-lt n r (marked .places) lr (marked .small))
+
+      here : y ≡ true → Corrected n t reps w w′ (Places m)
+      here e = record {
+        found = λ {r} hr lr q.
+            let k = close-here l reps C (p .sound) lr (received l reps C (p .sound) values written fresh hr lr) (final .0) located
+            (sym (says hr lr) ∙ e) in (
+              r ⊕ marked .places,
+              record { small = k .0 .small; is = k .0 .is },
+              sym (same q) ∙ marked .found .all h .0 ∙ k .1,
+              subst (λ (u : ℕ). u ≤ t) (same q) h,
+              changed hr,
+            );
+        none = λ hr lr q. absurd (differ (sym q));
+      }
+
+      other : y ≡ false → Corrected n t reps w w′ None
+      other e = record {
+        found = λ hr lr q. absurd (differ q);
+        none = λ {r} hr lr q x o.
+            subst (λ (u : ℕ). u < differences n r x) (sym (p .t-is))
+            (far-other l reps C (p .sound) lr (received l reps C (p .sound) values written fresh hr lr) (final .0) located
+            (sym (says hr lr) ∙ e) x (word o));
+      }
+
+  passed : {answer : Correction} → Passed n t m w′ reps answer → Corrected n t reps w w′ answer
+  passed {answer} k = go (decLt t m)
+    where
+      like : {y : Correction} → answer ≡ y → Corrected n t reps w w′ y → Corrected n t reps w w′ answer
+      like e z = subst (Corrected n t reps w w′) (sym e) z
+
+      tested : m ≤ t → (y : Bool) → k .right ≡ y → Corrected n t reps w w′ answer
+      tested h true e = like (k .yes h e) (exit-tested h (k .tested h) .0 e)
+      tested h false e = like (k .no h e) (exit-tested h (k .tested h) .1 e)
+
+      go : Dec (t < m) → Corrected n t reps w w′ answer
+      go (yes h) = like (k .many h) (exit-many h)
+      go (no h) = tested (omega arith) (k .right) refl
+
+-- ---- for any name of the degree, and whichever slice the locator stands in
+module _ {n s t : ℕ} {c : CodeCertificate} {reps : List ℕ} (p : Given n s t c reps) {w w′ val b b′ : List ℕ} {τ len m : ℕ} {answer : Correction} where
+  at-own : {lam : List ℕ} → Computed n s w reps val → Syndromes n (certificateAs c) val b b′ → Short 0 b → τ ≡ c .terms - t * degreeOf (c .f)
+      → Solved s (c .terms) τ b′ lam len → Changed n s (c .z) (c .f) t lam w w′ m → Passed n t m w′ reps answer → Corrected n t reps w w′ answer
+  at-own {lam} values written fresh τ-is solved marked k =
+      own (p .s-is) p values solved marked
+    where
+      own : {d : ℕ} → d ≡ orderOfTwo n → Given n d t c reps → Computed n d w reps val → Solved d (c .terms) τ b′ lam len
+          → Changed n d (c .z) (c .f) t lam w w′ m → Corrected n t reps w w′ answer
+      own {d} e p values solved marked =
+          passed (subst (λ (i : ℕ). Given n i t c reps) e p) (subst (λ (i : ℕ). Computed n i w reps val) e values) written fresh τ-is
+          (subst (λ (i : ℕ). Solved i (c .terms) τ b′ lam len) e solved) (subst (λ (i : ℕ). Changed n i (c .z) (c .f) t lam w w′ m) e marked) k
+
+  pub corrected : {v x : List ℕ} {u : ℕ} {second : Bool} → Computed n s w reps val → Syndromes n (certificateAs c) val b b′ → Short 0 b → u ≡ degreeOf (c .f)
+      → τ ≡ c .terms - t * u → Outcome s (c .terms) τ b′ second len v x → Marked n s t c second v x w w′ m → Passed n t m w′ reps answer
+      → Corrected n t reps w w′ answer
+  corrected {second = second} values written fresh eu eτ o marked k = go second refl
+    where
+      go : (y : Bool) → second ≡ y → Corrected n t reps w w′ answer
+      go false e = at-own values written fresh (eτ ∙ ap (λ (i : ℕ). c .terms - t * i) eu) (o .in-v e) (marked .by-v e) k
+      go true e = at-own values written fresh (eτ ∙ ap (λ (i : ℕ). c .terms - t * i) eu) (o .in-w e) (marked .by-x e) k

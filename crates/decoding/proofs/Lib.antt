@@ -1,0 +1,4 @@
+pub mod Reception
+pub mod Verdict
+pub mod Correcting
+pub mod Arrays

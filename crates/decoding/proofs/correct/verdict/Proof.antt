@@ -1,0 +1,24 @@
+use native.Mathlib.Omega.{arith}
+-- `decoding::correct::verdict` meets its contract: one law for each exit.
+use Rattle.decoding.proofs.Correcting.{passed-many, passed-yes, passed-no}
+use borrow.Author.Needs.{needs}
+use Rattle.decoding.proofs.correct.verdict.Statement.{statement}
+use Rattle.decoding.proofs.correct.verdict.Tie as tie
+use Rattle.decoding.proofs.correct.verdict.Reads as reads
+use Rattle.decoding.proofs.correct.verdict.Lts as lts
+use Rattle.syndrome.proofs.test.is_codeword.Reads as is-codeword-reads
+
+returns : tie.Need-returns
+returns c = passed-many (c .if1 .taken)
+
+is-codeword-requires : tie.Need-is-codeword-requires
+is-codeword-requires c κs = search needs
+
+returns-2 : tie.Need-returns-2
+returns-2 c = passed-yes (c .before .before .if1 .left) (c .before .is-codeword .ensures) (c .if2 .taken)
+
+returns-3 : tie.Need-returns-3
+returns-3 c = passed-no (c .before .before .if1 .left) (c .before .is-codeword .ensures) (c .if2 .left)
+
+pub verdict-spec : {M : Type 1} → statement M
+verdict-spec = tie.close (tie.spec returns is-codeword-requires returns-2 returns-3)

@@ -1,0 +1,62 @@
+use native.Mathlib.Omega.{arith}
+-- `decoding::room::in_long_room` meets its contract: arrays of 1,024.
+use Rattle.decoding.proofs.Arrays.{long-room, terms-few}
+use borrow.Author.Needs.{needs}
+use Rattle.decoding.proofs.room.in_long_room.Statement.{statement}
+use Rattle.decoding.proofs.room.in_long_room.Tie as tie
+use Rattle.decoding.proofs.room.in_long_room.Reads as reads
+use Rattle.decoding.proofs.room.in_long_room.Lts as lts
+use Rattle.decoding.proofs.correct.correct.Reads as correct-reads
+
+slice-aggregate-correct : tie.Need-slice-aggregate-correct
+slice-aggregate-correct c = search needs
+
+slice-aggregate-correct-2 : tie.Need-slice-aggregate-correct-2
+slice-aggregate-correct-2 c = search needs
+
+slice-aggregate-correct-3 : tie.Need-slice-aggregate-correct-3
+slice-aggregate-correct-3 c = search needs
+
+slice-aggregate-correct-4 : tie.Need-slice-aggregate-correct-4
+slice-aggregate-correct-4 c = search needs
+
+slice-aggregate-correct-5 : tie.Need-slice-aggregate-correct-5
+slice-aggregate-correct-5 c = search needs
+
+slice-aggregate-correct-6 : tie.Need-slice-aggregate-correct-6
+slice-aggregate-correct-6 c = search needs
+
+slice-aggregate-correct-7 : tie.Need-slice-aggregate-correct-7
+slice-aggregate-correct-7 c = search needs
+
+slice-aggregate-correct-8 : tie.Need-slice-aggregate-correct-8
+slice-aggregate-correct-8 c = search needs
+
+slice-aggregate-correct-9 : tie.Need-slice-aggregate-correct-9
+slice-aggregate-correct-9 c = search needs
+
+correct-requires : tie.Need-correct-requires
+correct-requires c κs = let p = c .before .before .before .before .before .before .before .before .before .before .before .before .before .before .pre in record { given = p .0; tables = p .1; room = long-room (p .0 .most) (terms-few (p .0)); held = p .2 }
+
+same-length : tie.Need-same-length
+same-length c = search needs
+
+returns : tie.Need-returns
+returns c = search needs
+
+pub in-long-room-spec : {M : Type 1} → statement M
+in-long-room-spec =
+    tie.close
+    (tie.spec
+    slice-aggregate-correct
+    slice-aggregate-correct-2
+    slice-aggregate-correct-3
+    slice-aggregate-correct-4
+    slice-aggregate-correct-5
+    slice-aggregate-correct-6
+    slice-aggregate-correct-7
+    slice-aggregate-correct-8
+    slice-aggregate-correct-9
+    correct-requires
+    same-length
+    returns)

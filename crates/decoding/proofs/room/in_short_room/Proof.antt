@@ -1,0 +1,62 @@
+use native.Mathlib.Omega.{arith}
+-- `decoding::room::in_short_room` meets its contract: arrays of 64.
+use Rattle.decoding.proofs.Arrays.{short-room}
+use borrow.Author.Needs.{needs}
+use Rattle.decoding.proofs.room.in_short_room.Statement.{statement}
+use Rattle.decoding.proofs.room.in_short_room.Tie as tie
+use Rattle.decoding.proofs.room.in_short_room.Reads as reads
+use Rattle.decoding.proofs.room.in_short_room.Lts as lts
+use Rattle.decoding.proofs.correct.correct.Reads as correct-reads
+
+slice-aggregate-correct : tie.Need-slice-aggregate-correct
+slice-aggregate-correct c = search needs
+
+slice-aggregate-correct-2 : tie.Need-slice-aggregate-correct-2
+slice-aggregate-correct-2 c = search needs
+
+slice-aggregate-correct-3 : tie.Need-slice-aggregate-correct-3
+slice-aggregate-correct-3 c = search needs
+
+slice-aggregate-correct-4 : tie.Need-slice-aggregate-correct-4
+slice-aggregate-correct-4 c = search needs
+
+slice-aggregate-correct-5 : tie.Need-slice-aggregate-correct-5
+slice-aggregate-correct-5 c = search needs
+
+slice-aggregate-correct-6 : tie.Need-slice-aggregate-correct-6
+slice-aggregate-correct-6 c = search needs
+
+slice-aggregate-correct-7 : tie.Need-slice-aggregate-correct-7
+slice-aggregate-correct-7 c = search needs
+
+slice-aggregate-correct-8 : tie.Need-slice-aggregate-correct-8
+slice-aggregate-correct-8 c = search needs
+
+slice-aggregate-correct-9 : tie.Need-slice-aggregate-correct-9
+slice-aggregate-correct-9 c = search needs
+
+correct-requires : tie.Need-correct-requires
+correct-requires c κs = let p = c .before .before .before .before .before .before .before .before .before .before .before .before .before .before .pre in record { given = p .0; tables = p .1; room = short-room (p .0 .most) (p .3); held = p .2 }
+
+same-length : tie.Need-same-length
+same-length c = search needs
+
+returns : tie.Need-returns
+returns c = search needs
+
+pub in-short-room-spec : {M : Type 1} → statement M
+in-short-room-spec =
+    tie.close
+    (tie.spec
+    slice-aggregate-correct
+    slice-aggregate-correct-2
+    slice-aggregate-correct-3
+    slice-aggregate-correct-4
+    slice-aggregate-correct-5
+    slice-aggregate-correct-6
+    slice-aggregate-correct-7
+    slice-aggregate-correct-8
+    slice-aggregate-correct-9
+    correct-requires
+    same-length
+    returns)

@@ -1,0 +1,84 @@
+// A received word corrected in place, its places one entry each. Everything here is lent; room.rt has the arrays.
+ghost use Rattle.syndrome.specs.Value.{Testable};
+ghost use Rattle.decoding.specs.Correct.{Searchable, Marked, Passed, Correctable, Corrected};
+use crate::types::Correction;
+use certificate::types::Certificate;
+use locating::change::change;
+use masks::factor::degree;
+use poly::euclid::euclid;
+use poly::types::Locator;
+use syndrome::cosets::values;
+use syndrome::series::syndromes;
+use syndrome::test::is_codeword;
+
+// The places that the locator marks are changed; it stands in x where `second`, and else in v.
+fn change_marked(
+    n: usize,
+    s: usize,
+    t: usize,
+    c: Certificate,
+    u: usize,
+    found: Locator,
+    v: &[u16],
+    x: &[u16],
+    e: &[u16],
+    g: &[u16],
+    lg: &mut [u16],
+    st: &mut [u16],
+    lo: &mut [u64],
+    hi: &mut [u64],
+    w: &mut [u8],
+) -> usize
+    requires { ⌜ Searchable n s c u (found .second) (found .len) (now v) (now x) (now e) (now g) (now lg) (now st) (now lo) (now hi) (now w) ⌝ }
+    ensures { λ r. ⌜ Marked n s t c (found .second) (now (v .entry)) (now (x .entry)) (now (w .entry)) (now (w .exit)) r ⌝ }
+{
+    if found.second {
+        return change(n, s, c.z, c.f, u, t, x, found.len, e, g, lg, st, lo, hi, w);
+    }
+    change(n, s, c.z, c.f, u, t, v, found.len, e, g, lg, st, lo, hi, w)
+}
+
+// Whatever a locator marks, a word is let through only if at most t places were changed and it is a codeword.
+fn verdict(n: usize, s: usize, t: usize, m: usize, w: &[u8], reps: &[u8], e: &[u16]) -> Correction
+    requires { ⌜ Testable n s (now w) (now reps) (now e) ⌝ }
+    ensures { λ r. ⌜ Passed n t m (now (w .entry)) (now (reps .entry)) r ⌝ }
+{
+    if t < m {
+        return Correction::None;
+    }
+    if is_codeword(w, n, s, reps, e) {
+        return Correction::Places(m);
+    }
+    Correction::None
+}
+
+// The codeword within t places of w in its place, if there is one.
+pub fn correct(
+    n: usize,
+    s: usize,
+    t: usize,
+    c: Certificate,
+    reps: &[u8],
+    e: &[u16],
+    g: &[u16],
+    val: &mut [u16],
+    a: &mut [u16],
+    b: &mut [u16],
+    v: &mut [u16],
+    x: &mut [u16],
+    lg: &mut [u16],
+    st: &mut [u16],
+    lo: &mut [u64],
+    hi: &mut [u64],
+    w: &mut [u8],
+) -> Correction
+    requires { ⌜ Correctable n s t c (now reps) (now e) (now g) (now val) (now a) (now b) (now v) (now x) (now lg) (now st) (now lo) (now hi) (now w) ⌝ }
+    ensures { λ r. ⌜ Corrected n t (now (reps .entry)) (now (w .entry)) (now (w .exit)) r ⌝ }
+{
+    values(w, n, s, reps, e, g, val);
+    syndromes(n, c, val, b);
+    let u = degree(c.f);
+    let found = euclid(s, a, b, v, x, c.terms, c.terms - t * u, e, g);
+    let m = change_marked(n, s, t, c, u, found, v, x, e, g, lg, st, lo, hi, w);
+    verdict(n, s, t, m, w, reps, e)
+}

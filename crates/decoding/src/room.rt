@@ -1,0 +1,166 @@
+// The arrays that correcting a word works in, by the code's size: tables for s up to 8 or up to 12, and polynomials of 64 or of
+// 1,024 coefficients. Clearing large arrays costs more than correcting a short code's word.
+ghost use Prim.Native.Nat.{_<_, _≤_};
+ghost use Rattle.tables.specs.Tables.{Tables};
+ghost use Rattle.decoding.specs.Correct.{Given, Held, Corrected};
+use crate::correct::correct;
+use crate::types::Correction;
+use certificate::types::Certificate;
+use tables::fill::fill;
+
+fn in_short_room(
+    n: usize,
+    s: usize,
+    t: usize,
+    c: Certificate,
+    reps: &[u8],
+    e: &[u16],
+    g: &[u16],
+    w: &mut [u8],
+) -> Correction
+    requires { ⌜ Given n s t c (now reps) × Tables s (now e) (now g) × Held n (now w) × (c .terms < 64) ⌝ }
+    ensures { λ r. ⌜ Corrected n t (now (reps .entry)) (now (w .entry)) (now (w .exit)) r ⌝ }
+{
+    let mut val = [0u16; 128];
+    let mut a = [0u16; 64];
+    let mut b = [0u16; 64];
+    let mut v = [0u16; 64];
+    let mut x = [0u16; 64];
+    let mut lg = [0u16; 64];
+    let mut st = [0u16; 64];
+    let mut lo = [0u64; 64];
+    let mut hi = [0u64; 64];
+    correct(
+        n,
+        s,
+        t,
+        c,
+        reps,
+        e,
+        g,
+        &mut val,
+        &mut a,
+        &mut b,
+        &mut v,
+        &mut x,
+        &mut lg,
+        &mut st,
+        &mut lo,
+        &mut hi,
+        w,
+    )
+}
+
+fn in_long_room(
+    n: usize,
+    s: usize,
+    t: usize,
+    c: Certificate,
+    reps: &[u8],
+    e: &[u16],
+    g: &[u16],
+    w: &mut [u8],
+) -> Correction
+    requires { ⌜ Given n s t c (now reps) × Tables s (now e) (now g) × Held n (now w) ⌝ }
+    ensures { λ r. ⌜ Corrected n t (now (reps .entry)) (now (w .entry)) (now (w .exit)) r ⌝ }
+{
+    let mut val = [0u16; 128];
+    let mut a = [0u16; 1024];
+    let mut b = [0u16; 1024];
+    let mut v = [0u16; 1024];
+    let mut x = [0u16; 1024];
+    let mut lg = [0u16; 1024];
+    let mut st = [0u16; 1024];
+    let mut lo = [0u64; 1024];
+    let mut hi = [0u64; 1024];
+    correct(
+        n,
+        s,
+        t,
+        c,
+        reps,
+        e,
+        g,
+        &mut val,
+        &mut a,
+        &mut b,
+        &mut v,
+        &mut x,
+        &mut lg,
+        &mut st,
+        &mut lo,
+        &mut hi,
+        w,
+    )
+}
+
+fn by_tables(
+    n: usize,
+    s: usize,
+    t: usize,
+    c: Certificate,
+    reps: &[u8],
+    e: &[u16],
+    g: &[u16],
+    w: &mut [u8],
+) -> Correction
+    requires { ⌜ Given n s t c (now reps) × Tables s (now e) (now g) × Held n (now w) ⌝ }
+    ensures { λ r. ⌜ Corrected n t (now (reps .entry)) (now (w .entry)) (now (w .exit)) r ⌝ }
+{
+    if c.terms < 64 {
+        return in_short_room(n, s, t, c, reps, e, g, w);
+    }
+    in_long_room(n, s, t, c, reps, e, g, w)
+}
+
+fn by_small_tables(
+    n: usize,
+    s: usize,
+    t: usize,
+    c: Certificate,
+    reps: &[u8],
+    w: &mut [u8],
+) -> Correction
+    requires { ⌜ Given n s t c (now reps) × Held n (now w) × (s ≤ 8) ⌝ }
+    ensures { λ r. ⌜ Corrected n t (now (reps .entry)) (now (w .entry)) (now (w .exit)) r ⌝ }
+{
+    let mut e = [0u16; 1024];
+    let mut g = [0u16; 256];
+    fill(s, &mut e, &mut g);
+    by_tables(n, s, t, c, reps, &e, &g, w)
+}
+
+fn by_large_tables(
+    n: usize,
+    s: usize,
+    t: usize,
+    c: Certificate,
+    reps: &[u8],
+    w: &mut [u8],
+) -> Correction
+    requires { ⌜ Given n s t c (now reps) × Held n (now w) ⌝ }
+    ensures { λ r. ⌜ Corrected n t (now (reps .entry)) (now (w .entry)) (now (w .exit)) r ⌝ }
+{
+    let mut e = [0u16; 16384];
+    let mut g = [0u16; 4096];
+    fill(s, &mut e, &mut g);
+    by_tables(n, s, t, c, reps, &e, &g, w)
+}
+
+// The codeword within t places of w in its place, if there is one.
+pub fn correct_word(
+    n: usize,
+    s: usize,
+    t: usize,
+    c: Certificate,
+    reps: &[u8],
+    w: &mut [u8],
+) -> Correction
+    requires { ⌜ Given n s t c (now reps) × Held n (now w) ⌝ }
+    ensures { λ r. ⌜ Corrected n t (now (reps .entry)) (now (w .entry)) (now (w .exit)) r ⌝ }
+{
+    if s <= 8 {
+        return by_small_tables(n, s, t, c, reps, w);
+    }
+    by_large_tables(n, s, t, c, reps, w)
+}

@@ -1,0 +1,51 @@
+use native.Mathlib.Omega.{arith}
+-- `dunefork::dunefork_decode` meets its contract: the entry's answer as a code.
+use Rattle.dunefork.proofs.Coded.{replied, coded-refused, decode-fits, decode-done}
+use borrow.Author.Needs.{needs}
+use Rattle.dunefork.proofs.dunefork_decode.Statement.{statement}
+use Rattle.dunefork.proofs.dunefork_decode.Tie as tie
+use Rattle.dunefork.proofs.dunefork_decode.Reads as reads
+use Rattle.dunefork.proofs.dunefork_decode.Lts as lts
+use Rattle.code.proofs.decode.decode.Reads as decode-reads
+use Rattle.dunefork.proofs.refusal_code.Reads as refusal-code-reads
+
+decode-requires : tie.Need-decode-requires
+decode-requires c κs = search needs
+
+enum-known-reply : tie.Need-enum-known-reply
+enum-known-reply c = search needs
+
+cast-result : tie.Need-cast-result
+cast-result c = decode-fits (c .before .before .before .before .before .before .before .before .before .before .args .sheet .now) _ _ (omega (arith, c .before .before .before .before .before .before .before .before .before .shared-slice-known .given 2)) (replied (c .before .reply .given .1) (c .before .before .before .before .before .decode .ensures))
+
+enum-known-reply-2 : tie.Need-enum-known-reply-2
+enum-known-reply-2 c = search needs
+
+refusal-code-requires : tie.Need-refusal-code-requires
+refusal-code-requires c κs = search needs
+
+same-length : tie.Need-same-length
+same-length c = search needs
+
+returns : tie.Need-returns
+returns c = let e = replied (c .before .reply .given .1) (c .before .before .before .before .before .decode .ensures) in decode-done (decode-fits (c .before .before .before .before .before .before .before .before .before .before .args .sheet .now) _ _ (omega (arith, c .before .before .before .before .before .before .before .before .before .shared-slice-known .given 2)) e) e
+
+same-length-2 : tie.Need-same-length-2
+same-length-2 c = search needs
+
+returns-2 : tie.Need-returns-2
+returns-2 c = coded-refused (c .before .before .reply2 .given .0 .0) (c .refusal-code .ensures) (replied (c .before .before .reply2 .given .1) (c .before .before .before .before .before .before .decode .ensures))
+
+pub dunefork-decode-spec : {M : Type 1} → statement M
+dunefork-decode-spec =
+    tie.close
+    (tie.spec
+    decode-requires
+    enum-known-reply
+    cast-result
+    enum-known-reply-2
+    refusal-code-requires
+    same-length
+    returns
+    same-length-2
+    returns-2)

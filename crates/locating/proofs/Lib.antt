@@ -1,0 +1,10 @@
+-- Laws, in reading order.
+pub mod Reduction
+pub mod Residue
+pub mod Exponents
+pub mod TermSums
+pub mod Lanes
+pub mod Entries
+pub mod Walking
+pub mod Finding
+pub mod Searching

@@ -1,0 +1,89 @@
+-- The search as a whole: f(α^(i z) x) divides the locator exactly where f divides the locator at α^(i (n - z)) x.
+--
+--   powered, length-le, multiple-lt, multiple-fits, walkable      what the parts need
+--   changed           and what they say together
+use mathlib.Core.Path.{_≡_, refl, sym, ap, _∙_, subst}
+use mathlib.Core.Logic.{_↔_}
+use mathlib.Core.Bool.{Bool, true, false}
+use mathlib.Core.List.{List}
+use Prim.Native.Nat.{ℕ, _+_, _-_, _*_, _/_, _^_, _≤_, _<_, _∣_}
+use native.Mathlib.Nat.{le-of-dvd, mul-add, mul-assoc, mul-comm}
+use native.Mathlib.Omega.{arith}
+use lib.ListN.{getD}
+use Rattle.algebra.proofs.Power.{pow, pow-add, pow-mul, pow-multiple}
+use Rattle.field.specs.Field.{Degree, OddLength, orderOfTwo}
+use Rattle.field.proofs.OrderOfTwo.{order-divides}
+use Rattle.field.proofs.Elements.{GF, gen, root, root-order}
+use Rattle.cyclic.proofs.Lift.{lift}
+use Rattle.tables.specs.Tables.{Tables}
+use Rattle.sheet.specs.Stage.{bit}
+use Rattle.syndrome.proofs.Computing.{root-lt}
+use Rattle.poly.specs.Slice.{series}
+use Rattle.locating.specs.Terms.{vanishes, Walkable, Walked, Powered}
+use Rattle.locating.specs.Change.{hits, Found, Search, Changed}
+use Rattle.locating.proofs.Reduction.{divides-substituted}
+use Rattle.locating.proofs.Finding.{hits-lt, hits-at}
+
+pub powered : {s : ℕ} {e g : List ℕ} → Tables s e g → Powered s e
+powered t = record {
+  degree = t .degree;
+  e-long = t .e-long;
+  powers = record { at = λ k h. t .e-at k (omega (arith, t .e-long)) };
+}
+
+bit-one : (b : Bool) → ((b ≡ true) ↔ (bit b ≡ 1))
+bit-one true = (λ e. refl, λ e. refl)
+bit-one false = (λ e. ap bit e, λ e. absurd (omega arith))
+
+divides : {n s : ℕ} → OddLength n → s ≡ orderOfTwo n → n ∣ 2 ^ s - 1
+divides {n} o e = subst (λ (t : ℕ). n ∣ 2 ^ t - 1) (sym e) (order-divides o)
+
+pub length-le : {n s : ℕ} {e g : List ℕ} → OddLength n → s ≡ orderOfTwo n → Tables s e g → n ≤ 2 ^ s - 1
+length-le o e t = le-of-dvd (omega (arith, t .four)) (divides o e)
+
+module _ {n s z f u len q : ℕ} {lam e g lg st lo hi w : List ℕ} (p : Search n s z f u len lam e g lg st lo hi w)
+    (q-is : q ≡ (2 ^ s - 1) / n) where
+  pub multiple-lt : {r : ℕ} → r < n → r * q < 2 ^ s - 1
+  multiple-lt {r} = root-lt (p .odd) (p .s-is) (p .tables .degree) q-is r
+
+  pub multiple-fits : {r : ℕ} → r < n → r * q < 2 ^ 64
+  multiple-fits h = omega (arith, multiple-lt h, p .tables .cap)
+
+  pub walkable : {back : ℕ} → back < 2 ^ s - 1 → Walkable s back f u len lam g lg st lo hi
+  walkable h = record {
+    degree = p .tables .degree;
+    modulus = p .modulus;
+    back-lt = h;
+    g-long = p .tables .g-long;
+    g-at = p .tables .g-at;
+    locator = p .locator;
+  }
+
+  -- α^(i z) α^(i (n - z)) = 1, the second as a power of ω
+  opposite : (d : Degree s) (i : ℕ) → GF d .mul (pow (GF d) (root d n) (i * z)) (pow (GF d) (gen d) (i * ((n - z) * q))) ≡ GF d .𝟙
+  unfolding root
+  opposite d i =
+      let back : i * ((n - z) * q) ≡ (2 ^ s - 1) / n * (i * (n - z)) =
+      sym (mul-assoc i (n - z) q) ∙ mul-comm (i * (n - z)) q ∙ ap (λ (x : ℕ). x * (i * (n - z))) q-is in
+      let whole : z + (n - z) ≡ n = omega (arith, p .z-hi) in
+      let round : i * z + i * (n - z) ≡ n * i = sym (mul-add i z (n - z)) ∙ ap (λ (x : ℕ). i * x) whole ∙ mul-comm i n in
+      ap (λ x. GF d .mul (pow (GF d) (root d n) (i * z)) x)
+      (ap (pow (GF d) (gen d)) back ∙ pow-mul (GF d) (gen d) ((2 ^ s - 1) / n) (i * (n - z)))
+      ∙ sym (pow-add (GF d) (root d n) (i * z) (i * (n - z)))
+      ∙ ap (pow (GF d) (root d n)) round ∙ pow-multiple (GF d) (root d n) n (root-order d n (divides (p .odd) (p .s-is))) i
+
+  pub changed : {t c r : ℕ} {lg′ st′ lo′ hi′ w′ : List ℕ} → Walked s ((n - z) * q) f u lam lg′ st′ lo′ hi′ c
+      → Found n t (hits n (vanishes s (getD lam 0 0) c lg′ st′ lo′ hi′)) w w′ r → Changed n s z f t lam w w′ r
+  changed {t} {c} {r} {lg′} {st′} {lo′} {hi′} {w′} v x = record {
+    places = hits n test;
+    small = hits-lt n test;
+    means = λ d i h.
+        let a = divides-substituted (GF d) _ _ (opposite d i) (lift (GF d) f) (series d lam) in
+        let b = v .means d i in
+        let y = bit-one (test i) in
+        (λ o. hits-at n test i h ∙ y .0 (b .1 (a .0 o)), λ o. a .1 (b .0 (y .1 (sym (hits-at n test i h) ∙ o))));
+    found = x;
+  }
+    where
+      test : ℕ → Bool
+      test = vanishes s (getD lam 0 0) c lg′ st′ lo′ hi′

@@ -1,0 +1,102 @@
+// One place: whether all coefficients of the remainder vanish there.
+ghost use mathlib.Core.Path.{_≡_};
+ghost use Prim.Native.Nat.{_+_, _-_, _*_, _/_, _%_, _^_, _<_};
+ghost use lib.Dec.{eqb};
+ghost use Rattle.field.specs.Mask.{_⊕_};
+ghost use Rattle.field.specs.Field.{Degree, ω, fieldPower};
+ghost use Rattle.locating.specs.Terms.{termSum, vanishes as vanishesOf, Powered, Listed, Searchable};
+use field::arithmetic::order;
+
+// An exponent with its high part added to the low one: ω has order 2^s - 1, so the power is the same.
+fn fold(y: usize, s: usize) -> usize
+    requires { ⌜ Degree s × (y < (2 ^ s - 1) * 2 ^ s) ⌝ }
+    ensures { λ r. ⌜ (r ≡ y % 2 ^ s + y / 2 ^ s) × (r < 2 * (2 ^ s - 1)) ⌝ }
+{
+    (y & order(s)) + (y >> s)
+}
+
+// ω^(l + i a)
+fn term(l: u16, a: u16, i: usize, s: usize, e: &[u16]) -> u16
+    requires { ⌜ Powered s (now e) × (l < 2 ^ s - 1) × (a < 2 ^ s - 1) × (i < 2 ^ s - 1) ⌝ }
+    ensures { λ r. ⌜ r ≡ fieldPower s ω (l + i * a) ⌝ }
+{
+    let y = fold(i * (a as usize), s);
+    e[(l as usize) + y]
+}
+
+// For f = 1 + x there is one coefficient.
+fn value_vanishes(
+    first: u16,
+    lg: &[u16],
+    st: &[u16],
+    count: usize,
+    i: usize,
+    s: usize,
+    e: &[u16],
+) -> bool
+    requires { ⌜ Powered s (now e) × Listed s count (now lg) (now st) × (i < 2 ^ s - 1) ⌝ }
+    ensures { λ r. ⌜ r ≡ eqb (first ⊕ termSum s (now (lg .entry)) (now (st .entry)) (λ m. 1) i count) 0 ⌝ }
+{
+    let mut a = first;
+    let mut m: usize = 0;
+    while m < count {
+        a = a ^ term(lg[m], st[m], i, s, e);
+        m = m + 1;
+    }
+    a == 0
+}
+
+fn wide(x: u16) -> u64
+    ensures { λ r. ⌜ r ≡ x ⌝ }
+{
+    x as u64
+}
+
+// For any f, eight at once.
+fn lanes_vanish(
+    first: u16,
+    lg: &[u16],
+    st: &[u16],
+    lo: &[u64],
+    hi: &[u64],
+    count: usize,
+    u: usize,
+    i: usize,
+    s: usize,
+    e: &[u16],
+) -> bool
+    requires { ⌜ Searchable s u count (now lg) (now st) (now lo) (now hi) (now e) × (i < 2 ^ s - 1) ⌝ }
+    ensures { λ r. ⌜ r ≡ vanishesOf s first count (now (lg .entry)) (now (st .entry)) (now (lo .entry)) (now (hi .entry)) i ⌝ }
+{
+    let mut a = wide(first);
+    let mut b = 0u64;
+    let mut m: usize = 0;
+    while m < count {
+        let y = wide(term(lg[m], st[m], i, s, e));
+        a = a ^ (y * lo[m]);
+        b = b ^ (y * hi[m]);
+        m = m + 1;
+    }
+    if b == 0 { a == 0 } else { false }
+}
+
+pub fn vanishes(
+    first: u16,
+    lg: &[u16],
+    st: &[u16],
+    lo: &[u64],
+    hi: &[u64],
+    count: usize,
+    u: usize,
+    i: usize,
+    s: usize,
+    e: &[u16],
+) -> bool
+    requires { ⌜ Searchable s u count (now lg) (now st) (now lo) (now hi) (now e) × (i < 2 ^ s - 1) ⌝ }
+    ensures { λ r. ⌜ r ≡ vanishesOf s first count (now (lg .entry)) (now (st .entry)) (now (lo .entry)) (now (hi .entry)) i ⌝ }
+{
+    if u == 1 {
+        return value_vanishes(first, lg, st, count, i, s, e);
+    }
+    lanes_vanish(first, lg, st, lo, hi, count, u, i, s, e)
+}

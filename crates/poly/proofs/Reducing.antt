@@ -1,0 +1,187 @@
+-- Division with cofactors, one term of the quotient after the other.
+--
+--   inverse-there, inverse-at          a leading coefficient has an inverse, at the logarithm that the tables give
+--   quotient-lt, addable-a, addable-w  the term of the quotient fits: bounds of its logarithm, room in both slices
+--   cancelled                          it takes the leading coefficient away
+--   reduced-one, reduced-none, reduced-more      one term, none, and one after others
+--   reducible-on                       what is left can be divided on
+use mathlib.Core.Path.{_≡_, sym, ap, ap₂, _∙_, subst}
+use mathlib.Core.Logic.{_≢_}
+use mathlib.Core.List.{List, [], _∷_}
+use Prim.Native.Nat.{ℕ, suc, _+_, _-_, _*_, _^_, _≤_, _<_}
+use native.Mathlib.Omega.{arith}
+use lib.ListN.{length, getD}
+use Rattle.algebra.proofs.Ring.{Ring, ring, mul-one, mul-assoc}
+use Rattle.algebra.proofs.Field.{Field}
+use Rattle.algebra.proofs.Series.{Ser}
+use Rattle.algebra.proofs.Poly.{Below, Below·weaken, Below·zero, Below·add, mono, mono-below}
+use Rattle.algebra.proofs.Divide.{Deg, lead, lead-below}
+use Rattle.field.specs.Field.{Degree, ω, fieldMultiply, fieldPower, logarithm, inverses}
+use Rattle.field.proofs.Elements.{GF, isField, el, el-mul}
+use Rattle.field.proofs.Numbers.{power-add, power-lt, multiply-one, multiply-assoc, multiply-comm, multiply-zero, el-ne}
+use Rattle.field.proofs.Numbers.{logarithm-lt, logarithm-is, inverses-of, inverse-is}
+use Rattle.poly.specs.Slice.{Short, series}
+use Rattle.poly.specs.Division.{plus, Addable, Added, LengthOf, InverseAt, Reducible, Reduced}
+use Rattle.poly.proofs.Slices.{below-of, short-of}
+
+-- ---- the inverse of a leading coefficient
+module _ {s : ℕ} (d : Degree s) {c : ℕ} (c-lt : c < 2 ^ s) (c-ne : c ≢ 0) where
+  pub inverse-there : [] ≡ inverses s c → ⊥
+  inverse-there e =
+      let q : [] ≡ fieldPower s c (2 ^ s - 2) ∷ [] = e ∙ inverses-of d c c-lt c-ne in
+      let o : _≡_ {A = ℕ} 0 1 = cc in omega arith
+
+  pub inverse-at : {x k : ℕ} → x < 2 ^ s → x ∷ [] ≡ inverses s c → k ≡ logarithm s x → InverseAt s k c
+  inverse-at {x} {k} l e o = record {
+    k-lt = subst (λ (i : ℕ). i < 2 ^ s - 1) (sym o) (logarithm-lt d x l x-ne);
+    is = ap (λ (i : ℕ). fieldMultiply s (fieldPower s ω i) c) o
+        ∙ ap (λ (y : ℕ). fieldMultiply s y c) (logarithm-is d x l x-ne) ∙ multiply-comm d x c ∙ one;
+  }
+    where
+      one : fieldMultiply s c x ≡ 1
+      one =
+          let q : x ∷ [] ≡ fieldPower s c (2 ^ s - 2) ∷ [] = e ∙ inverses-of d c c-lt c-ne in
+          let r : x ≡ fieldPower s c (2 ^ s - 2) = cc in
+          ap (fieldMultiply s c) r ∙ inverse-is d c c-lt c-ne
+
+      x-ne : x ≢ 0
+      x-ne z = let q : fieldMultiply s c 0 ≡ 1 = ap (fieldMultiply s c) (sym z) ∙ one in omega (arith, multiply-zero d c)
+
+-- ---- one term
+quotient-is : {A : Type 0} (R : Ring A) (K : Field R) (a b c : A) → b ≢ R .𝟘 → R .mul c b ≡ a → c ≡ R .mul a (K .inv b)
+quotient-is R K a b c n e =
+    sym (mul-one R c) ∙ ap (R .mul c) (sym (K .mul-inv b n)) ∙ sym (mul-assoc R c b (K .inv b))
+    ∙ ap (λ x. R .mul x (K .inv b)) e
+
+top-is : {s k b : ℕ} (d : Degree s) (i : ℕ) → InverseAt s k b → fieldMultiply s (fieldPower s ω (i + k)) b ≡ fieldPower s ω i
+top-is {s} {k} {b} d i v =
+    ap (λ (x : ℕ). fieldMultiply s x b) (sym (power-add d ω i k)) ∙ multiply-assoc d (fieldPower s ω i) (fieldPower s ω k) b
+    ∙ ap (fieldMultiply s (fieldPower s ω i)) (v .is) ∙ multiply-one d (fieldPower s ω i) (power-lt d ω i)
+
+module _ {s la lb lv k : ℕ} {a b w v e g : List ℕ} (p : Reducible s la lb lv a b w v e g) (l : lb ≤ la)
+    (o : InverseAt s k (getD b (lb - 1) 0)) {i : ℕ} (i-is : i ≡ logarithm s (getD a (la - 1) 0)) where
+  d : Degree s
+  d = p .tables .degree
+
+  a-ne : getD a (la - 1) 0 ≢ 0
+  a-ne = p .a-length .leading (omega (arith, p .b-pos))
+
+  pub quotient-lt : i + k ≤ 2 * (2 ^ s - 1)
+  quotient-lt =
+      let h : i < 2 ^ s - 1 = subst (λ (j : ℕ). j < 2 ^ s - 1) (sym i-is) (logarithm-lt d _ (p .a-small .at (la - 1)) a-ne) in
+      omega (arith, o .k-lt)
+
+  pub addable-a : Addable s (la - lb) (i + k) lb a b e g
+  addable-a = record {
+    tables = p .tables;
+    k-most = quotient-lt;
+    a-small = p .a-small;
+    b-small = p .b-small;
+    b-short = p .b-length .short;
+    a-long = omega (arith, p .a-long);
+    b-long = p .b-long;
+  }
+
+  pub addable-w : Addable s (la - lb) (i + k) lv w v e g
+  addable-w = record {
+    tables = p .tables;
+    k-most = quotient-lt;
+    a-small = p .w-small;
+    b-small = p .v-small;
+    b-short = p .v-short;
+    a-long = omega (arith, p .w-long);
+    b-long = p .v-long;
+  }
+
+  -- the term is the quotient of the leading coefficients
+  pub cancelled : {a′ : List ℕ} → Added s (la - lb) (i + k) a b a′ → Short (la - 1) a′
+  unfolding series
+  cancelled {a′} z =
+      short-of d (z .small)
+      (subst (Below (GF d) (la - 1)) (sym a′-is) (lead-below (GF d) (isField d) (omega arith) a-below b-deg))
+    where
+      a-below : Below (GF d) (suc (la - 1)) (series d a)
+      a-below = below-of d (omega arith) (p .a-length .short)
+
+      b-deg : Deg (GF d) (lb - 1) (series d b)
+      b-deg = record {
+        below = below-of d (omega arith) (p .b-length .short);
+        top = el-ne d _ (p .b-small .at (lb - 1)) (p .b-length .leading (p .b-pos));
+      }
+
+      c-is : el d (fieldPower s ω (i + k)) ≡ GF d .mul (series d a (la - 1)) (isField d .inv (series d b (lb - 1)))
+      c-is = quotient-is (GF d) (isField d) _ _ _ (b-deg .top)
+          (sym (el-mul d _ _)
+          ∙ ap (el d) (top-is d i o ∙ ap (fieldPower s ω) i-is ∙ logarithm-is d _ (p .a-small .at (la - 1)) a-ne))
+
+      a′-is : series d a′ ≡ plus d (series d a) (lead (GF d) (isField d) (la - 1) (lb - 1) (series d a) (series d b)) (series d b)
+      a′-is =
+          let q : la - lb ≡ la - 1 - (lb - 1) = omega (arith, p .b-pos) in
+          z .is d ∙ ap₂ (λ j c. plus d (series d a) (mono (GF d) j c) (series d b)) q c-is
+
+  pub reduced-one : {a′ w′ : List ℕ} {r : ℕ} → Added s (la - lb) (i + k) a b a′ → Added s (la - lb) (i + k) w v w′ → LengthOf a′ r
+      → Reduced s (la - lb) a b w v a′ w′ r
+  reduced-one x y h = record {
+    a-small = x .small;
+    w-small = y .small;
+    division = λ d. record {
+      quotient = mono (GF d) (la - lb) (el d (fieldPower s ω (i + k)));
+      quotient-below = mono-below (GF d) (la - lb) _;
+      a-is = x .is d;
+      w-is = y .is d;
+    };
+    a-length = h;
+  }
+
+-- ---- terms in turn
+none-added : {A : Type 0} (R : Ring A) (p r : A) → p ≡ R .add p (R .mul (R .𝟘) r)
+none-added R p r = simp ring
+
+more-added : {A : Type 0} (R : Ring A) (p q m r : A)
+    → R .add (R .add p (R .mul q r)) (R .mul m r) ≡ R .add p (R .mul (R .add q m) r)
+more-added R p q m r = simp ring
+
+pub reduced-none : {s la lb lv : ℕ} {a b w v e g : List ℕ} → Reducible s la lb lv a b w v e g → Reduced s (la - lb) a b w v a w la
+reduced-none {s} {la} {lb} {a = a} {b} {w} {v} p = record {
+  a-small = p .a-small;
+  w-small = p .w-small;
+  division = λ d. record {
+    quotient = Ser (GF d) .𝟘;
+    quotient-below = Below·zero (GF d) _;
+    a-is = none-added (Ser (GF d)) (series d a) (series d b);
+    w-is = none-added (Ser (GF d)) (series d w) (series d v);
+  };
+  a-length = p .a-length;
+}
+
+pub reduced-more : {s k m r r′ : ℕ} {a b w v a′ w′ a″ w″ : List ℕ} → m ≤ k → Reduced s k a b w v a′ w′ r
+    → Reduced s m a′ b w′ v a″ w″ r′ → Reduced s k a b w v a″ w″ r′
+reduced-more {s} {k} {m} {a = a} {b} {w} {v} h x y = record {
+  a-small = y .a-small;
+  w-small = y .w-small;
+  division = λ d. let p = x .division d in let q = y .division d in record {
+    quotient = Ser (GF d) .add (p .quotient) (q .quotient);
+    quotient-below = Below·add (GF d) (p .quotient-below) (Below·weaken (GF d) (omega arith) (q .quotient-below));
+    a-is = q .a-is ∙ ap (λ t. plus d t (q .quotient) (series d b)) (p .a-is) ∙ more-added (Ser (GF d)) _ _ _ _;
+    w-is = q .w-is ∙ ap (λ t. plus d t (q .quotient) (series d v)) (p .w-is) ∙ more-added (Ser (GF d)) _ _ _ _;
+  };
+  a-length = y .a-length;
+}
+
+pub reducible-on : {s n lb lv r k : ℕ} {a b w v e g a′ w′ : List ℕ} → Reducible s n lb lv a b w v e g → r ≤ n
+    → length a′ ≡ length a → length w′ ≡ length w → Reduced s k a b w v a′ w′ r → Reducible s r lb lv a′ b w′ v e g
+reducible-on p l x y z = record {
+  tables = p .tables;
+  a-small = z .a-small;
+  b-small = p .b-small;
+  w-small = z .w-small;
+  v-small = p .v-small;
+  a-length = z .a-length;
+  b-length = p .b-length;
+  b-pos = p .b-pos;
+  v-short = p .v-short;
+  a-long = omega (arith, x, p .a-long);
+  b-long = p .b-long;
+  v-long = p .v-long;
+  w-long = omega (arith, y, p .w-long);
+}

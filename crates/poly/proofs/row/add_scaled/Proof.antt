@@ -1,0 +1,85 @@
+-- `poly::row::add_scaled` meets its contract: j coefficients are added.
+use borrow.Author.Needs.{needs}
+use native.Mathlib.Omega.{arith}
+use Prim.Native.Nat.{_-_, _≤_}
+use mathlib.Core.Path.{_≡_, refl}
+use lib.ListN.{length}
+use Rattle.field.proofs.Numbers.{product-lt}
+use Rattle.poly.specs.Division.{Addable}
+use Rattle.poly.proofs.Adding.{Adding, adding-start, adding-more, adding-end}
+use Rattle.poly.proofs.row.add_scaled.Statement.{statement}
+use Rattle.poly.proofs.row.add_scaled.Tie as tie
+
+abbrev Inv-loop : tie.InvT-loop
+Inv-loop s a₀ i k b n e g j₀ a j = Addable s i k n a₀ b e g × (j ≤ n) × (length a ≡ length a₀) × Adding s i k j a₀ b a
+
+abbrev μ-loop : tie.MeasureT-loop
+μ-loop s a₀ i k b n e g j₀ a j = n - j
+
+loop-holds : tie.Need-loop-holds Inv-loop μ-loop
+loop-holds c = let p = c .before .before .before .before .pre in (p, omega arith, refl, adding-start (p .a-small))
+
+mul-scaled : tie.Need-mul-scaled Inv-loop μ-loop
+mul-scaled c = search needs
+
+shared-slice-read-scaled : tie.Need-shared-slice-read-scaled Inv-loop μ-loop
+shared-slice-read-scaled c = search needs
+
+scaled-requires : tie.Need-scaled-requires Inv-loop μ-loop
+scaled-requires c κs = let p = c .before .before .loop .inv .0 in (p .tables, p .k-most, p .b-small .at _)
+
+add-at : tie.Need-add-at Inv-loop μ-loop
+add-at c = search needs
+
+mul-a : tie.Need-mul-a Inv-loop μ-loop
+mul-a c = search needs
+
+slice-read-a : tie.Need-slice-read-a Inv-loop μ-loop
+slice-read-a c = search needs
+
+mul-a-2 : tie.Need-mul-a-2 Inv-loop μ-loop
+mul-a-2 c = search needs
+
+slice-write-a : tie.Need-slice-write-a Inv-loop μ-loop
+slice-write-a c = search needs
+
+add-j : tie.Need-add-j Inv-loop μ-loop
+add-j c = search needs
+
+loop-less : tie.Need-loop-less Inv-loop μ-loop
+loop-less c = search needs
+
+loop-again : tie.Need-loop-again Inv-loop μ-loop
+loop-again c =
+    let l = c .before .before .before .before .loop in
+    let p = l .inv .0 in
+    let y = c .before .scaled .ensures in
+    let t = adding-more _ _ (omega (arith, p .a-long)) (l .inv .3) (product-lt (p .tables .degree) _ _ y) y in
+    (p, omega arith, t .same-length, t)
+
+same-length : tie.Need-same-length Inv-loop μ-loop
+same-length c = search needs
+
+returns : tie.Need-returns Inv-loop μ-loop
+returns c = let l = c .before .loop in adding-end (l .inv .0) (omega arith) (l .inv .3)
+
+pub add-scaled-spec : {M : Type 1} → statement M
+add-scaled-spec =
+    tie.close
+    (tie.spec
+    Inv-loop
+    μ-loop
+    loop-holds
+    mul-scaled
+    shared-slice-read-scaled
+    scaled-requires
+    add-at
+    mul-a
+    slice-read-a
+    mul-a-2
+    slice-write-a
+    add-j
+    loop-less
+    loop-again
+    same-length
+    returns)

@@ -1,0 +1,177 @@
+-- The exits of decoding an accepted sheet's word, and what correcting it needs.
+--
+--   readable, given, held      the working certificate keeps rules 1 to 4, and the places of the word
+--   decode-word, decode-out, decode-spare      lengths and spare bits
+--   decode-far        no codeword within t places
+--   decode-done       the codeword, with the number of changed places; done-holds: the places that are packed
+use mathlib.Core.Path.{_≡_, refl, sym, ap, ap₂, _∙_, subst}
+use mathlib.Core.Logic.{_≢_}
+use mathlib.Core.Bool.{true, false}
+use mathlib.Core.List.{List, [], _∷_}
+use Prim.Native.Nat.{ℕ, _+_, _-_, _^_, _≤_, _<_}
+use native.Mathlib.Omega.{arith}
+use lib.ListN.{length, getD, take, drop, replicate, length-replicate}
+use Rattle.field.specs.Field.{orderOfTwo}
+use Rattle.document.specs.Answer.{returned, refused}
+use Rattle.document.specs.Layout.{wordWeight, bytesFor, maskOf, bytesOf, spare}
+use Rattle.document.specs.Sheet.{byteAt, codeLength, representativeCount, representatives, certificateCount, Certificate, certificate}
+use Rattle.document.specs.Coset.{dimension}
+use Rattle.document.specs.Generator.{generator, isCodeword, differences}
+use Rattle.document.specs.Certificate.{radius}
+use Rattle.document.specs.Judge.{judgeConditions, dimensionOf, workingOf, workingCertificate, judgeOf}
+use Rattle.document.specs.Entry.{wrongSize, generatorOf, radiusOf, wordOf, decodedWord, decodeConditions, decodeOf}
+use Rattle.document.proofs.Sane.{working-most}
+use Rattle.document.proofs.Acceptance.{quiet-of, accepted-iff}
+use Rattle.document.proofs.Settled.{entry-refused, size-wrong, size-right}
+use Rattle.document.proofs.Chain.{first-true, first-false}
+use Rattle.sheet.specs.Stage.{Headed}
+use Rattle.certificate.specs.declared.types.Certificate.{Certificate as CodeCertificate}
+use Rattle.certificate.specs.Rules.{certificateAs}
+use Rattle.distance.proofs.Rules.{Sound}
+use Rattle.distance.proofs.Sheets as Sheets
+use Rattle.distance.proofs.Decoding as Decoding
+use Rattle.binary.specs.Bits.{Holds}
+use Rattle.word.specs.Place.{Spread, Packed}
+use Rattle.word.proofs.Places.{word-weights, mask-lt}
+use Rattle.word.proofs.Spreading.{packed-is}
+use Rattle.codeword.specs.Room.{Usable, Recorded}
+use Rattle.codeword.proofs.Words.{length-of, part-is, generator-is, checks-is, word-holds, zeros}
+use Rattle.decoding.specs.declared.types.Correction.{Correction}
+use Rattle.decoding.specs.declared.types.Correction.the-variants.{Places, None}
+use Rattle.decoding.specs.Correct.{Given, Held, placesOf, Codeword, Corrected}
+
+module _ {sheet : List ℕ} {n k s working t : ℕ} (u : Usable sheet n k s) (rec : Recorded sheet working t) where
+  accepted : judgeOf sheet .number ≡ 0
+  accepted = accepted-iff sheet .1 (quiet-of sheet (u .quiet))
+
+  -- the representatives, as the code hands them on
+  abbrev part : ℕ → List ℕ
+  part r = take (10 + r - 10) (drop 10 sheet)
+
+  working-is : {c : CodeCertificate} → certificateAs c ≡ certificate sheet working → workingCertificate sheet ≡ certificateAs c
+  unfolding workingCertificate
+  working-is e = sym (e ∙ ap (certificate sheet) (rec .working-is))
+
+  pub given : {r : ℕ} {c : CodeCertificate} → r ≡ byteAt sheet 3 → certificateAs c ≡ certificate sheet working → Given n s t c (part r)
+  given {r} {c} er e =
+      subst (Given n s t c) (sym (part-is u er)) record {
+        length-of = length-of u;
+        most = omega (arith, u .n-is, u .head .most);
+        s-is = u .s-is;
+        below = u .rising .below;
+        sound = subst (λ (x : Certificate). Sound n (representatives sheet) x) (working-is e)
+            (subst (λ (m : ℕ). Sound m (representatives sheet) (workingCertificate sheet)) (sym (u .n-is)) (Sheets.working-sound sheet accepted));
+        t-is = rec .t-is ∙ ap radius (working-is e);
+      }
+
+  -- what reading it needs
+  pub readable : {r : ℕ} → r ≡ byteAt sheet 3 → Headed sheet × (r ≡ representativeCount sheet) × (working < certificateCount sheet)
+  unfolding representativeCount workingOf
+  readable e = (
+    u .head,
+    e,
+    omega (arith, rec .working-is, working-most (certificateCount sheet) (λ c. radius (certificate sheet c)) 0 (u .head .one) .0),
+  )
+
+  pub held : {word w : List ℕ} → Spread wordWeight 0 0 n word (replicate 144 0) w → length w ≡ 144 → Held n w
+  held {word} a l = record {
+    word = maskOf wordWeight n word;
+    small = mask-lt wordWeight n word;
+    holds = word-holds n a (zeros 144);
+    long = omega (arith, l, u .n-is, u .head .most);
+  }
+
+  checks : n - dimension n (representatives sheet) ≡ codeLength sheet - dimensionOf sheet
+  checks = checks-is u ∙ ap (λ (m : ℕ). m - dimensionOf sheet) (u .n-is)
+
+  -- the sheet's codewords are those of the code of its representatives
+  to-sheet : {c : ℕ} → Codeword n (representatives sheet) c → Sheets.Codeword sheet accepted c
+  to-sheet {c} x = record {
+    small = subst (λ (m : ℕ). c < 2 ^ m) (u .n-is) (x .small);
+    is = ap₂ (λ (m g : ℕ). isCodeword m g c) (sym checks) (sym (generator-is u)) ∙ x .is;
+  }
+
+  of-sheet : {c : ℕ} → Sheets.Codeword sheet accepted c → Codeword n (representatives sheet) c
+  of-sheet {c} x = record {
+    small = subst (λ (m : ℕ). c < 2 ^ m) (sym (u .n-is)) (x .small);
+    is = ap₂ (λ (m g : ℕ). isCodeword m g c) checks (generator-is u) ∙ x .is;
+  }
+
+  t-is : t ≡ radiusOf sheet
+  unfolding radiusOf
+  t-is = rec .t-is
+
+  at-sheet : {r : ℕ} {w w′ : List ℕ} {answer : Correction} → r ≡ byteAt sheet 3 → Corrected n t (part r) w w′ answer
+      → Corrected n t (representatives sheet) w w′ answer
+  at-sheet {w = w} {w′} {answer} er y = subst (λ (reps : List ℕ). Corrected n t reps w w′ answer) (part-is u er) y
+
+  -- the places that are packed
+  pub done-holds : {m : ℕ} {reps word w w′ : List ℕ} {answer : Correction} → Spread wordWeight 0 0 n word (replicate 144 0) w
+      → Corrected n t reps w w′ answer → placesOf answer ≡ m ∷ [] → (c : ℕ) × Holds c w′
+  done-holds {word = word} a y e = let f = y .found (word-holds n a (zeros 144)) (mask-lt wordWeight n word) e in (f .0, f .4)
+
+  module _ (word out : List ℕ) where
+    abbrev value : List ℕ
+    value = differences (codeLength sheet) (wordOf sheet word) (decodedWord sheet word) ∷ []
+
+    abbrev written : List ℕ
+    written = bytesOf wordWeight (codeLength sheet) (decodedWord sheet word)
+
+    pub decode-word : length word ≢ bytesFor n → (refused 11, out) ≡ decodeOf sheet word out
+    unfolding decodeOf decodeConditions
+    decode-word h =
+        entry-refused sheet (decodeConditions sheet word out) value written out 10 (quiet-of sheet (u .quiet))
+        (first-true (11, wrongSize (codeLength sheet) word) _
+        (size-wrong (codeLength sheet) word (λ e. h (e ∙ ap bytesFor (sym (u .n-is))))))
+
+    module _ (a : length word ≡ bytesFor n) where
+      pub decode-out : length out ≢ bytesFor n → (refused 11, out) ≡ decodeOf sheet word out
+      unfolding decodeOf decodeConditions
+      decode-out h =
+          entry-refused sheet (decodeConditions sheet word out) value written out 10 (quiet-of sheet (u .quiet))
+          (first-false (11, wrongSize (codeLength sheet) word) _ (size-right (codeLength sheet) word (a ∙ ap bytesFor (u .n-is)))
+          ∙ first-true (11, wrongSize (codeLength sheet) out) _
+          (size-wrong (codeLength sheet) out (λ e. h (e ∙ ap bytesFor (sym (u .n-is))))))
+
+      module _ (b : length out ≡ bytesFor n) where
+        pub decode-spare : spare wordWeight n word ≡ true → (refused 12, out) ≡ decodeOf sheet word out
+        unfolding decodeOf decodeConditions
+        decode-spare h =
+            entry-refused sheet (decodeConditions sheet word out) value written out 11 (quiet-of sheet (u .quiet))
+            (first-false (11, wrongSize (codeLength sheet) word) _ (size-right (codeLength sheet) word (a ∙ ap bytesFor (u .n-is)))
+            ∙ first-false (11, wrongSize (codeLength sheet) out) _ (size-right (codeLength sheet) out (b ∙ ap bytesFor (u .n-is)))
+            ∙ first-true (12, spare wordWeight (codeLength sheet) word) _
+            (ap (λ (x : ℕ). spare wordWeight x word) (sym (u .n-is)) ∙ h))
+
+        module _ (d : spare wordWeight n word ≡ false) {r : ℕ} (er : r ≡ byteAt sheet 3) {w : List ℕ}
+            (spread : Spread wordWeight 0 0 n word (replicate 144 0) w) where
+          received : Decoding.Received sheet word out
+          received = record {
+            word-long = a ∙ ap bytesFor (u .n-is);
+            out-long = b ∙ ap bytesFor (u .n-is);
+            clear = ap (λ (x : ℕ). spare wordWeight x word) (sym (u .n-is)) ∙ d;
+          }
+
+          holds : Holds (maskOf wordWeight n word) w
+          holds = word-holds n spread (zeros 144)
+
+          there : (c : ℕ) → differences n (maskOf wordWeight n word) c ≡ differences (codeLength sheet) (wordOf sheet word) c
+          there c = ap (λ (m : ℕ). differences m (maskOf wordWeight m word) c) (u .n-is)
+
+          pub decode-far : {w′ : List ℕ} {answer : Correction} → Corrected n t (part r) w w′ answer → placesOf answer ≡ []
+              → (refused 13, out) ≡ decodeOf sheet word out
+          decode-far y e =
+              Decoding.decode-none sheet accepted word out received
+              (λ c x. subst (λ (m : ℕ). m < differences (codeLength sheet) (wordOf sheet word) c) t-is
+              (subst (λ (m : ℕ). t < m) (there c) (at-sheet er y .none holds (mask-lt wordWeight n word) e c (of-sheet x))))
+
+          pub decode-done : {w′ out′ : List ℕ} {answer : Correction} {m : ℕ} → Corrected n t (part r) w w′ answer → placesOf answer ≡ m ∷ []
+              → Packed wordWeight w′ out′ → length out′ ≡ length out → ((i : ℕ) → getD out′ i 0 < 256)
+              → (returned (m ∷ []), out′) ≡ decodeOf sheet word out
+          decode-done {m = m} y e p long bytes =
+              let f = at-sheet er y .found holds (mask-lt wordWeight n word) e in
+              let q : m ≡ differences (codeLength sheet) (wordOf sheet word) (f .0) = f .2 ∙ there (f .0) in
+              ap₂ (λ (v : ℕ) (o : List ℕ). (returned (v ∷ []), o)) q
+              (packed-is word-weights n p (f .4) (long ∙ b) bytes ∙ ap (λ (i : ℕ). bytesOf wordWeight i (f .0)) (u .n-is))
+              ∙ Decoding.decode-found sheet accepted word out received (to-sheet (f .1))
+              (subst (λ (i : ℕ). i ≤ radiusOf sheet) q (subst (λ (i : ℕ). m ≤ i) t-is (f .3)))

@@ -1,0 +1,17 @@
+use borrow.Author.Needs.{needs}
+use native.Mathlib.Omega.{arith}
+-- `syndrome::series::term` meets its contract.
+use Rattle.syndrome.proofs.Terms.{term-one, term-none}
+use Rattle.syndrome.proofs.series.term.Statement.{statement}
+use Rattle.syndrome.proofs.series.term.Tie as tie
+use Rattle.syndrome.proofs.series.term.Reads as reads
+use Rattle.syndrome.proofs.series.term.Lts as lts
+
+returns : tie.Need-returns
+returns c = term-one _ _ (c .if1 .taken)
+
+returns-2 : tie.Need-returns-2
+returns-2 c = term-none _ _ (c .if1 .left)
+
+pub term-spec : {M : Type 1} → statement M
+term-spec = tie.close (tie.spec returns returns-2)

@@ -1,0 +1,3 @@
+-- Laws: the tables as they are filled, and what is read off them.
+pub mod Filling
+pub mod Products

@@ -1,0 +1,122 @@
+-- `tables::fill::fill` meets its contract: each power past the first round is the one a round before it.
+use borrow.Author.Needs.{needs}
+use native.Mathlib.Omega.{arith}
+use mathlib.Core.Path.{_≡_, refl, _∙_}
+use Prim.Native.Nat.{ℕ, _-_, _^_, _≤_}
+use lib.ListN.{length, length-set}
+use Rattle.field.specs.Field.{Degree}
+use Rattle.tables.specs.Tables.{Powers}
+use Rattle.field.proofs.Primitive.{Degree-bounds}
+use Rattle.tables.proofs.Filling.{powers-round, filled, room-kept}
+use Rattle.tables.proofs.fill.fill.Statement.{statement}
+use Rattle.tables.proofs.fill.fill.Tie as tie
+
+abbrev Inv-loop : tie.InvT-loop
+Inv-loop s e₀ g n end i₀ e i =
+    Degree s × (n ≡ 2 ^ s - 1) × (end ≡ length e₀) × (length e ≡ length e₀) × (n ≤ i) × (i ≤ end) × Powers s i e × (4 ≤ 2 ^ s)
+
+abbrev μ-loop : tie.MeasureT-loop
+μ-loop s e₀ g n end i₀ e i = end - i
+
+order-requires : tie.Need-order-requires Inv-loop μ-loop
+order-requires c κs = c .before .before .pre .degree
+
+once-requires : tie.Need-once-requires Inv-loop μ-loop
+once-requires c κs = (c .before .before .before .before .before .pre, c .before .before .order .ensures)
+
+cast-g : tie.Need-cast-g Inv-loop μ-loop
+cast-g c =
+    let b = Degree-bounds (c .before .before .before .before .before .before .before .before .before .before .pre .degree) in
+    omega (arith, b .1, c .before .before .before .before .before .before .before .order .ensures)
+
+slice-write-g : tie.Need-slice-write-g Inv-loop μ-loop
+slice-write-g c =
+    let p = c .before .before .before .before .before .before .before .before .before .before .pre in
+    let b = Degree-bounds (p .degree) in omega (arith, b .0, p .g-long, c .before .before .before .before .once .kept .1 .1 .1 .0)
+
+loop-holds : tie.Need-loop-holds Inv-loop μ-loop
+loop-holds c =
+    let p = c .before .before .before .before .before .before .before .before .before .before .pre in let d = p .degree in
+    let b = Degree-bounds d in (
+      d,
+      c .before .before .before .before .before .before .before .order .ensures,
+      refl,
+      refl,
+      omega arith,
+      omega (
+        arith,
+        p .e-long,
+        c .before .before .before .before .before .before .before .order .ensures,
+        c .before .before .before .before .once .kept .1 .1 .0,
+      ),
+      c .before .before .before .before .once .ensures .0,
+      b .0,
+    )
+
+sub-x : tie.Need-sub-x Inv-loop μ-loop
+sub-x c = search needs
+
+mul-x : tie.Need-mul-x Inv-loop μ-loop
+mul-x c = search needs
+
+slice-read-x : tie.Need-slice-read-x Inv-loop μ-loop
+slice-read-x c = search needs
+
+mul-e : tie.Need-mul-e Inv-loop μ-loop
+mul-e c = search needs
+
+slice-write-e : tie.Need-slice-write-e Inv-loop μ-loop
+slice-write-e c = search needs
+
+add-i : tie.Need-add-i Inv-loop μ-loop
+add-i c = search needs
+
+loop-less : tie.Need-loop-less Inv-loop μ-loop
+loop-less c = search needs
+
+loop-again : tie.Need-loop-again Inv-loop μ-loop
+loop-again c = let v = c .before .before .loop .inv in (
+  v .0,
+  v .1,
+  v .2,
+  simp length-set (v .3),
+  omega arith,
+  omega arith,
+  powers-round (v .0) (v .1) (v .4) (omega arith) (v .6),
+  v .7,
+)
+
+same-length : tie.Need-same-length Inv-loop μ-loop
+same-length c = c .before .loop .inv .3 ∙ c .before .before .before .before .before .before .once .kept .1 .1 .0
+
+same-length-2 : tie.Need-same-length-2 Inv-loop μ-loop
+same-length-2 c = simp length-set (c .before .before .before .before .before .before .once .kept .1 .1 .1 .0)
+
+returns : tie.Need-returns Inv-loop μ-loop
+returns c = let v = c .before .loop .inv in let o = c .before .before .before .before .before .before .once in
+    filled (room-kept (v .3 ∙ o .kept .1 .1 .0) (o .kept .1 .1 .1 .0)
+    (c .before .before .before .before .before .before .before .before .before .before .before .before .pre)) (v .1) (omega arith)
+    (v .6) (o .ensures .1)
+
+pub fill-spec : {M : Type 1} → statement M
+fill-spec =
+    tie.close
+    (tie.spec
+    Inv-loop
+    μ-loop
+    order-requires
+    once-requires
+    cast-g
+    slice-write-g
+    loop-holds
+    sub-x
+    mul-x
+    slice-read-x
+    mul-e
+    slice-write-e
+    add-i
+    loop-less
+    loop-again
+    same-length
+    same-length-2
+    returns)

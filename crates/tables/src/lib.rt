@@ -1,0 +1,4 @@
+// The tables of a degree in lent slices: the powers of ω, as many as there is room for, and the logarithm of each
+// element; products and inverses by them, each equal to that of crate `field`.
+pub mod fill;
+pub mod product;

@@ -29,9 +29,10 @@ cleared m = record { at = λ i h. go i (le-or-lt m i) }
     go i (inr h) = getD-replicate {A = ℕ} m i 0 0 h
 
 pub short-room : {n L : ℕ} → n ≤ 127 → L < 64
-    → Room n L (replicate 128 0) (replicate 64 0) (replicate 64 0) (replicate 64 0) (replicate 64 0) (replicate 64 0) (replicate 64 0)
+    → Room n L (replicate 128 0) (replicate 128 0) (replicate 64 0) (replicate 64 0) (replicate 64 0) (replicate 64 0) (replicate 64 0) (replicate 64 0)
     (replicate 64 0) (replicate 64 0)
 short-room h l = record {
+  list-long = omega arith;
   val-long = omega arith;
   a-long = omega arith;
   b-long = omega arith;
@@ -48,9 +49,10 @@ short-room h l = record {
 }
 
 pub long-room : {n L : ℕ} → n ≤ 127 → L ≤ 1023
-    → Room n L (replicate 128 0) (replicate 1024 0) (replicate 1024 0) (replicate 1024 0) (replicate 1024 0) (replicate 1024 0) (replicate 1024 0)
+    → Room n L (replicate 128 0) (replicate 128 0) (replicate 1024 0) (replicate 1024 0) (replicate 1024 0) (replicate 1024 0) (replicate 1024 0) (replicate 1024 0)
     (replicate 1024 0) (replicate 1024 0)
 long-room h l = record {
+  list-long = omega arith;
   val-long = omega arith;
   a-long = omega arith;
   b-long = omega arith;

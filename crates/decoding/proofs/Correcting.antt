@@ -10,7 +10,7 @@ use mathlib.Core.Path.{_≡_, refl, sym, ap, ap₂, _∙_, subst}
 use mathlib.Core.Logic.{_↔_}
 use mathlib.Core.Bool.{Bool, true, false}
 use mathlib.Core.List.{List, [], _∷_}
-use Prim.Native.Nat.{ℕ, suc, _+_, _-_, _*_, _^_, _≤_, _<_}
+use Prim.Native.Nat.{ℕ, suc, _+_, _-_, _*_, _/_, _^_, _≤_, _<_}
 use native.Mathlib.Decide.{decLt}
 use native.Mathlib.Omega.{arith}
 use lib.ListN.{length, getD}
@@ -21,7 +21,7 @@ use Rattle.algebra.proofs.Rows.{Done}
 use Rattle.field.specs.Mask.{_⊕_, coefficient}
 use Rattle.field.specs.Field.{Degree, orderOfTwo}
 use Rattle.field.proofs.Search.{true-ne-false}
-use Rattle.field.proofs.Xor.{⊕-lt}
+use Rattle.field.proofs.Xor.{digit-lt, ⊕-lt}
 use Rattle.field.proofs.Elements.{F, GF}
 use Rattle.masks.specs.Factor.{degree as degreeOf, Modulus}
 use Rattle.cyclic.proofs.Places.{count}
@@ -45,7 +45,8 @@ use Rattle.distance.proofs.Distance.{Word}
 use Rattle.binary.specs.Bits.{Holds}
 use Rattle.poly.specs.Slice.{Small, Short, series}
 use Rattle.poly.specs.Key.{Solvable, Key, Solved, Outcome}
-use Rattle.syndrome.specs.Value.{Computable, Computed, Testable, Tested}
+use Rattle.syndrome.specs.Value.{Listable, Computable, Computed, Testable, Tested}
+use Rattle.syndrome.proofs.Computing.{powered-of}
 use Rattle.syndrome.specs.Series.{Syndromes}
 use Rattle.locating.specs.Change.{Search, Changed}
 use Rattle.decoding.specs.declared.types.Correction.{Correction}
@@ -69,13 +70,21 @@ module _ {n s t : ℕ} {c : CodeCertificate} {reps : List ℕ} (p : Given n s t 
       (stop-fits₀ (c .terms) (degreeOf (c .f)) (degreeOf (c .h)) (range .v))
 
 -- ---- what the parts need
-module _ {n s t : ℕ} {c : CodeCertificate} {reps e g val a b v x lg st lo hi w : List ℕ}
-    (p : Correctable n s t c reps e g val a b v x lg st lo hi w) where
-  pub computable : Computable n s w reps e g val
+module _ {n s t : ℕ} {c : CodeCertificate} {reps e g list val a b v x lg st lo hi w : List ℕ}
+    (p : Correctable n s t c reps e g list val a b v x lg st lo hi w) where
+  listable : {w′ list′ : List ℕ} {r : ℕ} → Holds r w′ → length w′ ≡ length w → length list′ ≡ length list → Listable n w′ list′
+  listable {w′} {r = r} h lw ll = record {
+    few = omega (arith, p .given .most);
+    bits = λ i. subst (λ (y : ℕ). y < 2) (sym (h .at i)) (digit-lt (r / 2 ^ i));
+    w-long = omega (arith, lw, p .held .long);
+    list-long = omega (arith, ll, p .room .list-long);
+  }
+
+  pub computable : Computable n s w reps e g list val
   computable = record {
+    listable = listable (p .held .holds) refl refl;
     odd = p .given .length-of .odd;
     s-is = p .given .s-is;
-    w-long = p .held .long;
     val-long = p .room .val-long;
     below = p .given .below;
     tables = p .tables;
@@ -90,16 +99,20 @@ module _ {n s t : ℕ} {c : CodeCertificate} {reps e g val a b v x lg st lo hi w
   pub few : c .terms ≤ 1023
   few = range (p .given) .L-high
 
-  pub testable : {w′ : List ℕ} → length w′ ≡ length w → Testable n s w′ reps e
-  testable l = record {
+  -- where at most t places are changed, the word is one
+  pub testable : {m : ℕ} {second : Bool} {v′ x′ w′ list′ : List ℕ} → Marked n s t c second v′ x′ w w′ m → length w′ ≡ length w
+      → length list′ ≡ length list → m ≤ t → Testable n s w′ reps e list′
+  testable {second = second} {w′ = w′} {list′} y lw ll h = record {
+    listable = room second refl;
     odd = p .given .length-of .odd;
     s-is = p .given .s-is;
-    w-long = omega (arith, l, p .held .long);
     below = p .given .below;
-    degree = p .tables .degree;
-    e-long = omega (arith, p .tables .e-long);
-    powers = record { at = λ i h. p .tables .e-at i (omega (arith, p .tables .e-long)) };
+    powered = powered-of (p .tables);
   }
+    where
+      room : (z : Bool) → second ≡ z → Listable n w′ list′
+      room false e = listable (y .by-v e .found .all h .1 _ (p .held .holds)) lw ll
+      room true e = listable (y .by-x e .found .all h .1 _ (p .held .holds)) lw ll
 
   pub solvable : {u : ℕ} {val′ b′ : List ℕ} → u ≡ degreeOf (c .f) → Computed n s w reps val′ → Syndromes n (certificateAs c) val′ b b′
       → length b′ ≡ length b → Solvable s (c .terms) (c .terms - t * u) a b′ v x e g

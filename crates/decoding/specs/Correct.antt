@@ -58,7 +58,8 @@ pub record Passed (n t m : ℕ) (w reps : List ℕ) (answer : Correction) : Type
   pub no : m ≤ t → right ≡ false → answer ≡ None
 
 -- ---- the whole
-pub record Room (n L : ℕ) (val a b v x lg st lo hi : List ℕ) : Type 0 where
+pub record Room (n L : ℕ) (list val a b v x lg st lo hi : List ℕ) : Type 0 where
+  pub list-long : n ≤ length list
   pub val-long : n ≤ length val
   pub a-long : L < length a
   pub b-long : L < length b
@@ -80,10 +81,10 @@ pub record Held (n : ℕ) (w : List ℕ) : Type 0 where
   pub holds : Holds word w
   pub long : n ≤ length w
 
-pub record Correctable (n s t : ℕ) (c : CodeCertificate) (reps e g val a b v x lg st lo hi w : List ℕ) : Type 0 where
+pub record Correctable (n s t : ℕ) (c : CodeCertificate) (reps e g list val a b v x lg st lo hi w : List ℕ) : Type 0 where
   pub given : Given n s t c reps
   pub tables : Tables s e g
-  pub room : Room n (c .terms) val a b v x lg st lo hi
+  pub room : Room n (c .terms) list val a b v x lg st lo hi
   pub held : Held n w
 
 -- a codeword of n places of the code of reps

@@ -1,4 +1,5 @@
 // A received word corrected in place, its places one entry each. Everything here is lent; room.rt has the arrays.
+ghost use Prim.Native.Nat.{_≤_};
 ghost use Rattle.syndrome.specs.Value.{Testable};
 ghost use Rattle.decoding.specs.Correct.{Searchable, Marked, Passed, Correctable, Corrected};
 use crate::types::Correction;
@@ -39,14 +40,23 @@ fn change_marked(
 }
 
 // Whatever a locator marks, a word is let through only if at most t places were changed and it is a codeword.
-fn verdict(n: usize, s: usize, t: usize, m: usize, w: &[u8], reps: &[u8], e: &[u16]) -> Correction
-    requires { ⌜ Testable n s (now w) (now reps) (now e) ⌝ }
+fn verdict(
+    n: usize,
+    s: usize,
+    t: usize,
+    m: usize,
+    w: &[u8],
+    reps: &[u8],
+    e: &[u16],
+    list: &mut [u8],
+) -> Correction
+    requires { ⌜ (m ≤ t → Testable n s (now w) (now reps) (now e) (now list)) ⌝ }
     ensures { λ r. ⌜ Passed n t m (now (w .entry)) (now (reps .entry)) r ⌝ }
 {
     if t < m {
         return Correction::None;
     }
-    if is_codeword(w, n, s, reps, e) {
+    if is_codeword(w, n, s, reps, e, list) {
         return Correction::Places(m);
     }
     Correction::None
@@ -61,6 +71,7 @@ pub fn correct(
     reps: &[u8],
     e: &[u16],
     g: &[u16],
+    list: &mut [u8],
     val: &mut [u16],
     a: &mut [u16],
     b: &mut [u16],
@@ -72,13 +83,13 @@ pub fn correct(
     hi: &mut [u64],
     w: &mut [u8],
 ) -> Correction
-    requires { ⌜ Correctable n s t c (now reps) (now e) (now g) (now val) (now a) (now b) (now v) (now x) (now lg) (now st) (now lo) (now hi) (now w) ⌝ }
+    requires { ⌜ Correctable n s t c (now reps) (now e) (now g) (now list) (now val) (now a) (now b) (now v) (now x) (now lg) (now st) (now lo) (now hi) (now w) ⌝ }
     ensures { λ r. ⌜ Corrected n t (now (reps .entry)) (now (w .entry)) (now (w .exit)) r ⌝ }
 {
-    values(w, n, s, reps, e, g, val);
+    values(w, n, s, reps, e, g, list, val);
     syndromes(n, c, val, b);
     let u = degree(c.f);
     let found = euclid(s, a, b, v, x, c.terms, c.terms - t * u, e, g);
     let m = change_marked(n, s, t, c, u, found, v, x, e, g, lg, st, lo, hi, w);
-    verdict(n, s, t, m, w, reps, e)
+    verdict(n, s, t, m, w, reps, e, list)
 }

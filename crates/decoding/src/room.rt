@@ -21,6 +21,7 @@ fn in_short_room(
     requires { ⌜ Given n s t c (now reps) × Tables s (now e) (now g) × Held n (now w) × (c .terms < 64) ⌝ }
     ensures { λ r. ⌜ Corrected n t (now (reps .entry)) (now (w .entry)) (now (w .exit)) r ⌝ }
 {
+    let mut list = [0u8; 128];
     let mut val = [0u16; 128];
     let mut a = [0u16; 64];
     let mut b = [0u16; 64];
@@ -38,6 +39,7 @@ fn in_short_room(
         reps,
         e,
         g,
+        &mut list,
         &mut val,
         &mut a,
         &mut b,
@@ -64,6 +66,7 @@ fn in_long_room(
     requires { ⌜ Given n s t c (now reps) × Tables s (now e) (now g) × Held n (now w) ⌝ }
     ensures { λ r. ⌜ Corrected n t (now (reps .entry)) (now (w .entry)) (now (w .exit)) r ⌝ }
 {
+    let mut list = [0u8; 128];
     let mut val = [0u16; 128];
     let mut a = [0u16; 1024];
     let mut b = [0u16; 1024];
@@ -81,6 +84,7 @@ fn in_long_room(
         reps,
         e,
         g,
+        &mut list,
         &mut val,
         &mut a,
         &mut b,

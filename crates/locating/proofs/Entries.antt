@@ -23,7 +23,7 @@ use Rattle.field.proofs.Primitive.{Degree-bounds}
 use Rattle.field.proofs.Numbers.{power-z, power-add, power-lt, logarithm-lt, logarithm-is, multiply-one, zero-multiply}
 use Rattle.masks.specs.Factor.{Modulus}
 use Rattle.locating.specs.Terms.{lanes, termSum, Listed}
-use Rattle.locating.proofs.Exponents.{power-mod}
+use Rattle.tables.proofs.Exponents.{power-mod}
 use Rattle.locating.proofs.Residue.{power-zero, residue, residue-z, residue-s}
 use Rattle.locating.proofs.TermSums.{sum-z, sum-s, sum-ext}
 use Rattle.locating.proofs.Lanes.{lane, lane-add, lane-times}

@@ -66,7 +66,8 @@ lane-times y p h j l =
     ap (lane j) (product y p) ∙ go j l (digit-le y p 0) (digit-le y p 1) (digit-le y p 2) (digit-le y p 3)
   where
     go : (j : ℕ) → j < 4 → coefficient 0 y * p ≤ p → coefficient 1 y * p ≤ p → coefficient 2 y * p ≤ p → coefficient 3 y * p ≤ p
-        → lane j (four (coefficient 0 y * p) (coefficient 1 y * p) (coefficient 2 y * p) (coefficient 3 y * p)) ≡ coefficient j y * p
+        → lane j (four (coefficient 0 y * p) (coefficient 1 y * p) (coefficient 2 y * p) (coefficient 3 y * p))
+        ≡ coefficient j y * p
     go zero l a b c d = omega arith
     go (suc zero) l a b c d = omega arith
     go (suc (suc zero)) l a b c d = omega arith

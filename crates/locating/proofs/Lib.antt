@@ -1,7 +1,6 @@
 -- Laws, in reading order.
 pub mod Reduction
 pub mod Residue
-pub mod Exponents
 pub mod TermSums
 pub mod Lanes
 pub mod Entries

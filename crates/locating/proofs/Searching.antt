@@ -1,6 +1,6 @@
 -- The search as a whole: f(α^(i z) x) divides the locator exactly where f divides the locator at α^(i (n - z)) x.
 --
---   powered, length-le, multiple-lt, multiple-fits, walkable      what the parts need
+--   powered, length-le, walkable, multiple-lt, multiple-fits      what the parts need
 --   changed           and what they say together
 use mathlib.Core.Path.{_≡_, refl, sym, ap, _∙_, subst}
 use mathlib.Core.Logic.{_↔_}
@@ -19,7 +19,8 @@ use Rattle.tables.specs.Tables.{Tables}
 use Rattle.sheet.specs.Stage.{bit}
 use Rattle.syndrome.proofs.Computing.{root-lt}
 use Rattle.poly.specs.Slice.{series}
-use Rattle.locating.specs.Terms.{vanishes, Walkable, Walked, Powered}
+use Rattle.tables.specs.Tables.{Powered}
+use Rattle.locating.specs.Terms.{vanishes, Walkable, Walked}
 use Rattle.locating.specs.Change.{hits, Found, Search, Changed}
 use Rattle.locating.proofs.Reduction.{divides-substituted}
 use Rattle.locating.proofs.Finding.{hits-lt, hits-at}
@@ -41,6 +42,17 @@ divides {n} o e = subst (λ (t : ℕ). n ∣ 2 ^ t - 1) (sym e) (order-divides o
 pub length-le : {n s : ℕ} {e g : List ℕ} → OddLength n → s ≡ orderOfTwo n → Tables s e g → n ≤ 2 ^ s - 1
 length-le o e t = le-of-dvd (omega (arith, t .four)) (divides o e)
 
+pub walkable : {n s z f u len back : ℕ} {lam e g lg st lo hi w : List ℕ} → Search n s z f u len lam e g lg st lo hi w
+    → back < 2 ^ s - 1 → Walkable s back f u len lam g lg st lo hi
+walkable p h = record {
+  degree = p .tables .degree;
+  modulus = p .modulus;
+  back-lt = h;
+  g-long = p .tables .g-long;
+  g-at = p .tables .g-at;
+  locator = p .locator;
+}
+
 module _ {n s z f u len q : ℕ} {lam e g lg st lo hi w : List ℕ} (p : Search n s z f u len lam e g lg st lo hi w)
     (q-is : q ≡ (2 ^ s - 1) / n) where
   pub multiple-lt : {r : ℕ} → r < n → r * q < 2 ^ s - 1
@@ -48,16 +60,6 @@ module _ {n s z f u len q : ℕ} {lam e g lg st lo hi w : List ℕ} (p : Search 
 
   pub multiple-fits : {r : ℕ} → r < n → r * q < 2 ^ 64
   multiple-fits h = omega (arith, multiple-lt h, p .tables .cap)
-
-  pub walkable : {back : ℕ} → back < 2 ^ s - 1 → Walkable s back f u len lam g lg st lo hi
-  walkable h = record {
-    degree = p .tables .degree;
-    modulus = p .modulus;
-    back-lt = h;
-    g-long = p .tables .g-long;
-    g-at = p .tables .g-at;
-    locator = p .locator;
-  }
 
   -- α^(i z) α^(i (n - z)) = 1, the second as a power of ω
   opposite : (d : Degree s) (i : ℕ) → GF d .mul (pow (GF d) (root d n) (i * z)) (pow (GF d) (gen d) (i * ((n - z) * q))) ≡ GF d .𝟙

@@ -5,7 +5,6 @@
 --   vanishes                whether all coefficients of the remainder at place i are 0: a lane of two such sums for each
 --   Locator                 a locator of at most len coefficients, and room for its terms
 --   Walkable, Walked        the locator's terms: what listing them needs, and leaves
---   Powered s e             the powers of ω for four rounds
 --   Listed s c lg st        logarithms and steps of c terms
 --   Laned u c lo hi         the remainders of c terms, in lanes
 --   Searchable              all that a place needs
@@ -26,7 +25,7 @@ use Rattle.field.specs.Field.{Degree, ω, fieldPower, logarithm}
 use Rattle.field.proofs.Elements.{GF, gen}
 use Rattle.cyclic.proofs.Lift.{lift}
 use Rattle.masks.specs.Factor.{Modulus}
-use Rattle.tables.specs.Tables.{Powers}
+use Rattle.tables.specs.Tables.{Powered}
 use Rattle.poly.specs.Slice.{Small, Short, series}
 
 unfoldable pub lanes : ℕ → ℕ
@@ -81,11 +80,6 @@ pub record Walked (s back f u : ℕ) (lam lg st lo hi : List ℕ) (c : ℕ) : Ty
   pub means : (d : Degree s) (i : ℕ)
       → (vanishes s (getD lam 0 0) c lg st lo hi i ≡ true)
       ↔ Divides (Polys (GF d)) (lift (GF d) f) (sub (GF d) (pow (GF d) (gen d) (i * back)) (series d lam))
-
-pub record Powered (s : ℕ) (e : List ℕ) : Type 0 where
-  pub degree : Degree s
-  pub e-long : 4 * (2 ^ s - 1) ≤ length e
-  pub powers : Powers s (4 * (2 ^ s - 1)) e
 
 pub record Searchable (s u c : ℕ) (lg st lo hi e : List ℕ) : Type 0 where
   pub powered : Powered s e

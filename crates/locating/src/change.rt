@@ -7,7 +7,7 @@ use crate::place::vanishes;
 use crate::walk::walk;
 use field::arithmetic::order;
 
-// Place i changed where it is hit; how many that are.
+// Place i changed where it is hit: 1 if so.
 fn mark(hit: bool, w: &mut [u8], i: usize) -> usize
     requires { ⌜ i < length (now w) ⌝ }
     ensures { λ r. ⌜ Marked hit i (now (w .entry)) (now (w .exit)) r ⌝ }
@@ -35,7 +35,8 @@ fn search(
     w: &mut [u8],
 ) -> usize
     requires { ⌜ Searchable s u count (now lg) (now st) (now lo) (now hi) (now e) × (n ≤ 2 ^ s - 1) × (n ≤ length (now w)) ⌝ }
-    ensures { λ r. ⌜ Found n t (hits n (vanishesOf s first count (now (lg .entry)) (now (st .entry)) (now (lo .entry)) (now (hi .entry))))
+    ensures { λ r. ⌜ Found n t
+        (hits n (vanishesOf s first count (now (lg .entry)) (now (st .entry)) (now (lo .entry)) (now (hi .entry))))
         (now (w .entry)) (now (w .exit)) r ⌝ }
 {
     let mut c: usize = 0;
@@ -51,8 +52,8 @@ fn search(
     c
 }
 
-// Changes the places i below n of w at which f(α^(i z) x) divides the locator, and counts them: if there are more than t,
-// it stops. For every i at once, that is f against the locator at α^(i (n - z)) x.
+// Changes the places i below n of w at which f(α^(i z) x) divides the locator, and counts them; it stops as soon as there
+// are more than t. At place i that asks whether f divides the locator at α^(i (n - z)) x, since α^n = 1.
 pub fn change(
     n: usize,
     s: usize,

@@ -3,28 +3,11 @@ ghost use mathlib.Core.Path.{_≡_};
 ghost use Prim.Native.Nat.{_+_, _-_, _*_, _/_, _%_, _^_, _<_};
 ghost use lib.Dec.{eqb};
 ghost use Rattle.field.specs.Mask.{_⊕_};
-ghost use Rattle.field.specs.Field.{Degree, ω, fieldPower};
-ghost use Rattle.locating.specs.Terms.{termSum, vanishes as vanishesOf, Powered, Listed, Searchable};
-use field::arithmetic::order;
+ghost use Rattle.tables.specs.Tables.{Powered};
+ghost use Rattle.locating.specs.Terms.{termSum, vanishes as vanishesOf, Listed, Searchable};
+use tables::exponent::term;
 
-// An exponent with its high part added to the low one: ω has order 2^s - 1, so the power is the same.
-fn fold(y: usize, s: usize) -> usize
-    requires { ⌜ Degree s × (y < (2 ^ s - 1) * 2 ^ s) ⌝ }
-    ensures { λ r. ⌜ (r ≡ y % 2 ^ s + y / 2 ^ s) × (r < 2 * (2 ^ s - 1)) ⌝ }
-{
-    (y & order(s)) + (y >> s)
-}
-
-// ω^(l + i a)
-fn term(l: u16, a: u16, i: usize, s: usize, e: &[u16]) -> u16
-    requires { ⌜ Powered s (now e) × (l < 2 ^ s - 1) × (a < 2 ^ s - 1) × (i < 2 ^ s - 1) ⌝ }
-    ensures { λ r. ⌜ r ≡ fieldPower s ω (l + i * a) ⌝ }
-{
-    let y = fold(i * (a as usize), s);
-    e[(l as usize) + y]
-}
-
-// For f = 1 + x there is one coefficient.
+// For f = 1 + x: the remainder is one coefficient, with a 1 for every term, and so takes no lanes.
 fn value_vanishes(
     first: u16,
     lg: &[u16],
@@ -52,7 +35,7 @@ fn wide(x: u16) -> u64
     x as u64
 }
 
-// For any f, eight at once.
+// For any f: a lane of two words for each coefficient, and so one load and two products a term.
 fn lanes_vanish(
     first: u16,
     lg: &[u16],
@@ -80,6 +63,7 @@ fn lanes_vanish(
     if b == 0 { a == 0 } else { false }
 }
 
+// Whether f divides the locator at place i.
 pub fn vanishes(
     first: u16,
     lg: &[u16],

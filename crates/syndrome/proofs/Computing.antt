@@ -1,17 +1,17 @@
 -- A word's values at α^i for every i of D.
 --
 --   value-all          places past the last 1 change nothing
---   root-by            ω^(r q) is α^r, where q is (2^s - 1) / n: root-lt
+--   q-pos, root-by     ω^(r q) is α^r, where q is (2^s - 1) / n: root-lt
 --   value-at           so the value at ω^(r q) is that at α^r
 --   Computing, computing-start, computing-more, computing-end      the first k representatives with their cosets
---   testable, valuable, value-here, spreadable      what the parts need
+--   powered-of, computable-on, testable-on, testable, by-lt, valuable, value-here, spreadable      what the parts need
 --   Testing, testing-start, testing-more, testing-end, testing-wrong      a codeword is 0 at each representative
 use mathlib.Core.Path.{_≡_, refl, sym, ap, _∙_, subst}
 use mathlib.Core.Logic.{_≢_}
 use mathlib.Core.Bool.{Bool, true, false}
 use mathlib.Core.List.{List, [], _∷_}
 use Prim.Native.Nat.{ℕ, zero, suc, _+_, _-_, _*_, _/_, _%_, _^_, _≤_, _<_, _∣_}
-use native.Mathlib.Nat.{div-mul-cancel, mod-eq-of-lt, mul-comm, mul-le-mul-right, suc-mul, zero-mul}
+use native.Mathlib.Nat.{div-mul-cancel, mul-comm, mul-le-mul-left, mul-le-mul-right, mul-one, suc-mul, zero-mul}
 use native.Mathlib.Decide.{ℕ-discrete, decLt}
 use native.Mathlib.Omega.{arith}
 use lib.ListN.{length, getD}
@@ -27,8 +27,9 @@ use Rattle.document.specs.Generator.{valueBelow, valueAt}
 use Rattle.document.proofs.Theory.{Length, T-of, representatives}
 use Rattle.document.proofs.Demand2.{representatives-iff}
 use Rattle.binary.specs.Bits.{Holds}
-use Rattle.syndrome.specs.Value.{Valuable, Valued, valueOf, Spreadable, Spread, Computable, Computed, Testable, Tested}
-use Rattle.syndrome.proofs.Values.{power-by}
+use Rattle.tables.specs.Tables.{Powered, Tables}
+use Rattle.syndrome.specs.Value.{sumOver, Listable, Listed, Valuable, valueOf, Spreadable, Spread, Computable, Computed, Testable, Tested}
+use Rattle.syndrome.proofs.Values.{power-by, value-of}
 
 -- ---- places past the last 1
 value-on : (s a c k m : ℕ) → c < 2 ^ k → k ≤ m → valueBelow s a m c ≡ valueBelow s a k c
@@ -57,28 +58,35 @@ module _ {n s q : ℕ} (o : OddLength n) (s-is : s ≡ orderOfTwo n) (d : Degree
       ap (λ (x : ℕ). x * n) q-is
       ∙ div-mul-cancel n (subst (λ (t : ℕ). n ∣ 2 ^ t - 1) (sym s-is) (order-divides o))
 
+  pub q-pos : 1 ≤ q
+  q-pos = go (decLt 0 q)
+    where
+      go : Dec (0 < q) → 1 ≤ q
+      go (yes l) = l
+      go (no l) =
+          let four : 2 ^ 2 ≤ 2 ^ s = pow-mono (d .lo) in
+          let z : q ≡ 0 = omega arith in
+          let e : 0 * n ≡ 2 ^ s - 1 = ap (λ (x : ℕ). x * n) (sym z) ∙ whole in
+          absurd (omega (arith, zero-mul n))
+
   pub root-lt : (r : ℕ) → r < n → r * q < 2 ^ s - 1
   root-lt r h =
       let four : 2 ^ 2 ≤ 2 ^ s = pow-mono (d .lo) in
-      let pos : 0 < q = q-pos (decLt 0 q) four in
+      let pos : 1 ≤ q = q-pos in
       let le : suc r * q ≤ n * q = mul-le-mul-right q h in
       let more : suc r * q ≡ r * q + q = suc-mul r q in
       let all : n * q ≡ 2 ^ s - 1 = mul-comm n q ∙ whole in
       omega arith
-    where
-      q-pos : Dec (0 < q) → 2 ^ 2 ≤ 2 ^ s → 0 < q
-      q-pos (yes l) f = l
-      q-pos (no l) f = let z : q ≡ 0 = omega arith in let e : 0 * n ≡ 2 ^ s - 1 = ap (λ (x : ℕ). x * n) (sym z) ∙ whole in absurd (omega (arith, zero-mul n))
 
-  root-by : (r : ℕ) → r < n → fieldPower s ω (r * q) ≡ fieldPower s (α s n) r
+  root-by : (r : ℕ) → fieldPower s ω (r * q) ≡ fieldPower s (α s n) r
   unfolding α
-  root-by r h =
-      ap (fieldPower s ω) (mul-comm r q ∙ sym (mod-eq-of-lt (subst (λ (x : ℕ). x < 2 ^ s - 1) (mul-comm r q) (root-lt r h))))
-      ∙ power-by d q r ∙ ap (λ (x : ℕ). fieldPower s (fieldPower s ω x) r) q-is
+  root-by r = power-by d q r ∙ ap (λ (x : ℕ). fieldPower s (fieldPower s ω x) r) q-is
 
-  pub value-at : {r v c : ℕ} {w : List ℕ} → r < n → Valued n s (r * q) w v → Holds c w → c < 2 ^ n → v ≡ valueOf n s c r
-  value-at {r} {v} {c} h t hc l =
-      t .is hc ∙ ap (λ (a : ℕ). valueBelow s a n c) (root-by r h) ∙ value-all s (fieldPower s (α s n) r) c n l
+  pub value-at : (r : ℕ) {v c k : ℕ} {w list : List ℕ} → Listed n w list k → v ≡ sumOver (λ i. fieldPower s ω (i * (r * q))) list k → Holds c w
+      → c < 2 ^ n → v ≡ valueOf n s c r
+  value-at r {v} {c} t e hc l =
+      e ∙ t .is c hc (λ i. fieldPower s ω (i * (r * q))) ∙ value-of d (r * q) n c ∙ ap (λ (a : ℕ). valueBelow s a n c) (root-by r)
+      ∙ value-all s (fieldPower s (α s n) r) c n l
 
 -- ---- the representatives in turn
 pub record Computing (n s k : ℕ) (w reps val : List ℕ) : Type 0 where
@@ -98,19 +106,42 @@ computing-more {n} {s} {k} {r} {v} {w} {reps} {val} {val′} t e f p = record {
   ];
 }
 
-pub testable : {n s : ℕ} {w reps e g val : List ℕ} → Computable n s w reps e g val → Testable n s w reps e
-testable p = record {
-  odd = p .odd;
-  s-is = p .s-is;
-  w-long = p .w-long;
-  below = p .below;
-  degree = p .tables .degree;
-  e-long = omega (arith, p .tables .e-long);
-  powers = record { at = λ i l. p .tables .e-at i (omega (arith, p .tables .e-long)) };
+pub powered-of : {s : ℕ} {e g : List ℕ} → Tables s e g → Powered s e
+powered-of t = record {
+  degree = t .degree;
+  e-long = t .e-long;
+  powers = record { at = λ i l. t .e-at i (omega (arith, t .e-long)) };
 }
 
-long : {n s : ℕ} {w reps e : List ℕ} → Testable n s w reps e → Length n
-long p = record { odd = p .odd; most = omega (arith, p .s-is, p .degree .hi) }
+-- room of the same length does as well
+relisted : {n : ℕ} {w list list′ : List ℕ} → length list′ ≡ length list → Listable n w list → Listable n w list′
+relisted e p = record { few = p .few; bits = p .bits; w-long = p .w-long; list-long = omega (arith, e, p .list-long) }
+
+pub computable-on : {n s : ℕ} {w reps e g list list′ val : List ℕ} → length list′ ≡ length list → Computable n s w reps e g list val
+    → Computable n s w reps e g list′ val
+computable-on l p = record {
+  listable = relisted l (p .listable);
+  odd = p .odd;
+  s-is = p .s-is;
+  val-long = p .val-long;
+  below = p .below;
+  tables = p .tables;
+}
+
+pub testable-on : {n s : ℕ} {w reps e list list′ : List ℕ} → length list′ ≡ length list → Testable n s w reps e list → Testable n s w reps e list′
+testable-on l p = record { listable = relisted l (p .listable); odd = p .odd; s-is = p .s-is; below = p .below; powered = p .powered }
+
+pub testable : {n s : ℕ} {w reps e g list val : List ℕ} → Computable n s w reps e g list val → Testable n s w reps e list
+testable p = record {
+  listable = p .listable;
+  odd = p .odd;
+  s-is = p .s-is;
+  below = p .below;
+  powered = powered-of (p .tables);
+}
+
+long : {n s : ℕ} {w reps e list : List ℕ} → Testable n s w reps e list → Length n
+long p = record { odd = p .odd; most = omega (arith, p .s-is, p .powered .degree .hi) }
 
 at-in : (l : List ℕ) (j : ℕ) → j < length l → In (getD l j 0) l
 at-in [] j h = absurd (omega arith)
@@ -121,9 +152,9 @@ in-at : {q : ℕ} {l : List ℕ} → In q l → (j : ℕ) × (j < length l) × (
 in-at here = (0, omega arith, refl)
 in-at (there i) = let w = in-at i in (suc (w .0), omega (arith, w .1), w .2)
 
-pub computing-end : {n s k : ℕ} {w reps e g val₀ val : List ℕ} → Computable n s w reps e g val₀ → length reps ≤ k
+pub computing-end : {n s k : ℕ} {w reps e g list val₀ val : List ℕ} → Computable n s w reps e g list val₀ → length reps ≤ k
     → Computing n s k w reps val → Computed n s w reps val
-computing-end {n} {s} {k} {w} {reps} {e} {g} {val₀} {val} p h t = record {
+computing-end {n} {s} {k} {w} {reps} {e} {g} {list} {val₀} {val} p h t = record {
   at = λ c hc l i q.
       let r = representatives (long (testable p)) reps .cover i (T-of q) in
       let a = in-at (r .2) in
@@ -132,23 +163,31 @@ computing-end {n} {s} {k} {w} {reps} {e} {g} {val₀} {val} p h t = record {
 }
 
 -- ---- what the parts need
-module _ {n s q : ℕ} {w reps e : List ℕ} (p : Testable n s w reps e) (q-is : q ≡ (2 ^ s - 1) / n) where
-  pub valuable : {k r : ℕ} → k < length reps → r ≡ getD reps k 0 → Valuable n s (r * q) w e
-  valuable {k} {r} h a = record {
-    degree = p .degree;
-    few = p .odd .most;
-    w-long = p .w-long;
-    by-lt = root-lt (p .odd) (p .s-is) (p .degree) q-is r (subst (λ (x : ℕ). x < n) (sym a) (p .below k h));
-    e-long = p .e-long;
-    powers = p .powers;
+module _ {n s q : ℕ} {w reps e list : List ℕ} (p : Testable n s w reps e list) (q-is : q ≡ (2 ^ s - 1) / n) where
+  pub by-lt : {k r : ℕ} → k < length reps → r ≡ getD reps k 0 → r * q < 2 ^ s - 1
+  by-lt {k} {r} h a = root-lt (p .odd) (p .s-is) (p .powered .degree) q-is r (subst (λ (x : ℕ). x < n) (sym a) (p .below k h))
+
+  -- a place is an exponent
+  place-lt : (i : ℕ) → i < n → i < 2 ^ s - 1
+  place-lt i h = omega (arith, root-lt (p .odd) (p .s-is) (p .powered .degree) q-is (n - 1) (omega arith), whole-pos, mul-le-mul-left (n - 1) whole-pos, mul-one (n - 1))
+    where
+      whole-pos : 1 ≤ q
+      whole-pos = q-pos (p .odd) (p .s-is) (p .powered .degree) q-is
+
+  pub valuable : {k r c : ℕ} → k < length reps → r ≡ getD reps k 0 → Listed n w list c → Valuable c s (r * q) list e
+  valuable {k} {r} h a t = record {
+    powered = p .powered;
+    by-lt = by-lt {k = k} h a;
+    below = λ i b. place-lt _ (t .below i b);
+    long = omega (arith, t .le, p .listable .list-long);
+    few = omega (arith, t .le, p .listable .few);
   }
 
-  pub value-here : {k r v : ℕ} → k < length reps → r ≡ getD reps k 0 → Valued n s (r * q) w v → (c : ℕ) → Holds c w → c < 2 ^ n
-      → v ≡ valueOf n s c r
-  value-here {k} h a t c hc l =
-      value-at (p .odd) (p .s-is) (p .degree) q-is (subst (λ (x : ℕ). x < n) (sym a) (p .below k h)) t hc l
+  pub value-here : (r : ℕ) {v c : ℕ} → Listed n w list c → v ≡ sumOver (λ i. fieldPower s ω (i * (r * q))) list c → (a : ℕ) → Holds a w
+      → a < 2 ^ n → v ≡ valueOf n s a r
+  value-here r t e a ha l = value-at (p .odd) (p .s-is) (p .powered .degree) q-is r t e ha l
 
-pub spreadable : {n s : ℕ} {w reps e g val : List ℕ} → Computable n s w reps e g val → {k r v : ℕ} {val′ : List ℕ} → k < length reps
+pub spreadable : {n s : ℕ} {w reps e g list val : List ℕ} → Computable n s w reps e g list val → {k r v : ℕ} {val′ : List ℕ} → k < length reps
     → r ≡ getD reps k 0 → v < 2 ^ s → length val′ ≡ length val → Spreadable n s r v e g val′
 spreadable {n} p {k} h a b l = record {
   odd = p .odd;
@@ -175,7 +214,7 @@ testing-more {n} {s} {k} {r} {w} {reps} t e f = record {
   ];
 }
 
-pub testing-end : {n s k : ℕ} {w reps e : List ℕ} → Testable n s w reps e → length reps ≤ k → Testing n s k w reps
+pub testing-end : {n s k : ℕ} {w reps e list : List ℕ} → Testable n s w reps e list → length reps ≤ k → Testing n s k w reps
     → Tested n w reps true
 testing-end {n} {s} {k} {w} {reps} p h t = record {
   is = λ c hc l.
@@ -186,7 +225,7 @@ testing-end {n} {s} {k} {w} {reps} p h t = record {
       ap (λ (x : ℕ). valueAt x (fieldPower x (α x n) r) c) (sym (p .s-is)) ∙ ap (valueOf n s c) (sym (a .2)) ∙ t .done c hc l (a .0) (omega (arith, a .1)))));
 }
 
-pub testing-wrong : {n s k r v : ℕ} {w reps e : List ℕ} → Testable n s w reps e → k < length reps → r ≡ getD reps k 0 → v ≢ 0
+pub testing-wrong : {n s k r v : ℕ} {w reps e list : List ℕ} → Testable n s w reps e list → k < length reps → r ≡ getD reps k 0 → v ≢ 0
     → ((c : ℕ) → Holds c w → c < 2 ^ n → v ≡ valueOf n s c r) → Tested n w reps false
 testing-wrong {n} {s} {k} {r} {v} {w} {reps} p h e ne f = record {
   is = λ c hc l. no-word c (f c hc l) _ (λ y. representatives-iff (long p) reps c .0 y);

@@ -1,5 +1,6 @@
 // Values along cosets: the value at a square is the square of the value.
 ghost use Rattle.syndrome.specs.Value.{Spreadable, Spread, Computable, Computed};
+use crate::ones::ones;
 use crate::value::value;
 use field::arithmetic::order;
 use field::degree::twice;
@@ -22,17 +23,28 @@ pub fn spread(n: usize, s: usize, r: usize, v: u16, e: &[u16], g: &[u16], val: &
 }
 
 // The values of a word at α^i for every i of D: those at the representatives from its places, the others along the cosets.
-pub fn values(w: &[u8], n: usize, s: usize, reps: &[u8], e: &[u16], g: &[u16], val: &mut [u16])
-    requires { ⌜ Computable n s (now w) (now reps) (now e) (now g) (now val) ⌝ }
+// `list` is room.
+pub fn values(
+    w: &[u8],
+    n: usize,
+    s: usize,
+    reps: &[u8],
+    e: &[u16],
+    g: &[u16],
+    list: &mut [u8],
+    val: &mut [u16],
+)
+    requires { ⌜ Computable n s (now w) (now reps) (now e) (now g) (now list) (now val) ⌝ }
     ensures { λ _. ⌜ Computed n s (now (w .entry)) (now (reps .entry)) (now (val .exit)) ⌝ }
 {
+    let c = ones(w, n, list);
     let q = order(s) / n;
     let count = reps.len();
     let mut k: usize = 0;
     while k < count {
         let r = reps[k] as usize;
-        let v = value(w, n, s, r * q, e);
-        spread(n, s, r, v, e, g, val);
         k = k + 1;
+        let v = value(list, c, s, (r * q) as u16, e);
+        spread(n, s, r, v, e, g, val);
     }
 }

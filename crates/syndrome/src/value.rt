@@ -1,28 +1,20 @@
-// The value of a word at a power of ω, by a table of powers.
-ghost use Rattle.syndrome.specs.Value.{Valuable, Term, Valued};
-use certificate::check::step;
-use field::arithmetic::order;
+// The value of a word at a power of ω, by the list of its ones and a table of powers.
+ghost use mathlib.Core.Path.{_≡_};
+ghost use Prim.Native.Nat.{_*_, _^_, _<_};
+ghost use Rattle.field.specs.Field.{ω, fieldPower};
+ghost use Rattle.syndrome.specs.Value.{Valuable, sumOver};
+use tables::exponent::term;
 
-// y added where the bit is 1.
-fn add_where(acc: u16, bit: u8, y: u16) -> u16
-    ensures { λ r. ⌜ Term acc bit y r ⌝ }
+// The sum of ω^(i by) over the first c places i of the list.
+pub fn value(list: &[u8], c: usize, s: usize, by: u16, e: &[u16]) -> u16
+    requires { ⌜ Valuable c s by (now list) (now e) ⌝ }
+    ensures { λ r. ⌜ (r ≡ sumOver (λ i. fieldPower s ω (i * by)) (now (list .entry)) c) × (r < 2 ^ s) ⌝ }
 {
-    if bit == 1 { acc ^ y } else { acc }
-}
-
-// The sum of ω^(by i) over the places i of w that hold a 1. The exponent goes round with no product and no division.
-pub fn value(w: &[u8], n: usize, s: usize, by: usize, e: &[u16]) -> u16
-    requires { ⌜ Valuable n s by (now w) (now e) ⌝ }
-    ensures { λ r. ⌜ Valued n s by (now (w .entry)) r ⌝ }
-{
-    let end = order(s);
     let mut acc = 0u16;
-    let mut x: usize = 0;
-    let mut i: usize = 0;
-    while i < n {
-        acc = add_where(acc, w[i], e[x]);
-        x = step(end, x, by);
-        i = i + 1;
+    let mut k: usize = 0;
+    while k < c {
+        acc = acc ^ term(0, by, list[k] as usize, s, e);
+        k = k + 1;
     }
     acc
 }

@@ -2,6 +2,7 @@
 --
 --   Room s e g         e and g are long enough
 --   Powers s n e       e holds the first n powers
+--   Powered s e        e holds the powers of four rounds
 --   Logs s n g g′      g′ holds the logarithms of the first n powers, and else what g held
 --   Tables s e g       e and g hold them, and e has room for four rounds, so that sums of four logarithms need no reduction
 --   Filled s g e′ g′   what filling leaves: the tables, and of the old g what lies beyond them
@@ -19,6 +20,11 @@ pub record Room (s : ℕ) (e g : List ℕ) : Type 0 where
 
 pub record Powers (s n : ℕ) (e : List ℕ) : Type 0 where
   pub at : (k : ℕ) → k < n → getD e k 0 ≡ fieldPower s ω k
+
+pub record Powered (s : ℕ) (e : List ℕ) : Type 0 where
+  pub degree : Degree s
+  pub e-long : 4 * (2 ^ s - 1) ≤ length e
+  pub powers : Powers s (4 * (2 ^ s - 1)) e
 
 pub record Logs (s n : ℕ) (g g′ : List ℕ) : Type 0 where
   pub at : (k : ℕ) → k < n → getD g′ (fieldPower s ω k) 0 ≡ k

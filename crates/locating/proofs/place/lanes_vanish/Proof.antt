@@ -54,7 +54,8 @@ mul-a-2 c =
     let t = c .before .before .before .before .before in
     let p = t .before .loop .inv .0 in
     let b = p .laned .lo-le _ (t .loop-test .taken) in
-    record { fits = weight-fits _ _ (p .powered .degree) (c .before .wide2 .ensures) (c .before .before .term .ensures) b }
+    let w = c .before in
+    record { fits = weight-fits _ _ (p .powered .degree) (w .wide2 .ensures) (w .before .term .ensures) b }
 
 mul-b : tie.Need-mul-b Inv-loop μ-loop
 mul-b c = omega (arith, c .before .before .before .before .before .before .loop .inv .0 .laned .hi-long)
@@ -67,13 +68,14 @@ mul-b-2 c =
     let t = c .before .before .before .before .before .before in
     let p = t .before .loop .inv .0 in
     let b = p .laned .hi-le _ (t .loop-test .taken) in
-    record { fits = weight-fits _ _ (p .powered .degree) (c .before .before .wide2 .ensures) (c .before .before .before .term .ensures) b }
+    let w = c .before .before in
+    record { fits = weight-fits _ _ (p .powered .degree) (w .wide2 .ensures) (w .before .term .ensures) b }
 
 add-m : tie.Need-add-m Inv-loop μ-loop
 add-m c = search needs
 
 loop-less : tie.Need-loop-less Inv-loop μ-loop
-loop-less c = search needs
+loop-less c = omega arith
 
 loop-again : tie.Need-loop-again Inv-loop μ-loop
 loop-again c =

@@ -4,7 +4,8 @@ use native.Mathlib.Omega.{arith}
 use mathlib.Core.Path.{refl, ap}
 use Prim.Native.Nat.{ℕ, _-_, _^_, _≤_, _<_}
 use lib.Dec.{eqb}
-use Rattle.locating.specs.Terms.{Powered, Listed}
+use Rattle.tables.specs.Tables.{Powered}
+use Rattle.locating.specs.Terms.{Listed}
 use Rattle.locating.proofs.TermSums.{Summing, summing-start, summing-one, summing-end}
 use Rattle.locating.proofs.place.value_vanishes.Statement.{statement}
 use Rattle.locating.proofs.place.value_vanishes.Tie as tie
@@ -20,16 +21,16 @@ loop-holds : tie.Need-loop-holds Inv-loop μ-loop
 loop-holds c = (c .before .before .before .pre, omega arith, summing-start refl)
 
 mul-term : tie.Need-mul-term Inv-loop μ-loop
-mul-term c = search needs
+mul-term c = omega (arith, c .before .loop .inv .0 .1 .lg-long)
 
 shared-slice-read-term : tie.Need-shared-slice-read-term Inv-loop μ-loop
-shared-slice-read-term c = search needs
+shared-slice-read-term c = omega (arith, c .before .before .loop .inv .0 .1 .lg-long)
 
 mul-term-2 : tie.Need-mul-term-2 Inv-loop μ-loop
-mul-term-2 c = search needs
+mul-term-2 c = omega (arith, c .before .before .loop .inv .0 .1 .st-long)
 
 shared-slice-read-term-2 : tie.Need-shared-slice-read-term-2 Inv-loop μ-loop
-shared-slice-read-term-2 c = search needs
+shared-slice-read-term-2 c = omega (arith, c .before .before .before .loop .inv .0 .1 .st-long)
 
 term-requires : tie.Need-term-requires Inv-loop μ-loop
 term-requires c κs =
@@ -40,7 +41,7 @@ add-m : tie.Need-add-m Inv-loop μ-loop
 add-m c = search needs
 
 loop-less : tie.Need-loop-less Inv-loop μ-loop
-loop-less c = search needs
+loop-less c = omega arith
 
 loop-again : tie.Need-loop-again Inv-loop μ-loop
 loop-again c =

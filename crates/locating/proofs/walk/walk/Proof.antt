@@ -79,10 +79,14 @@ lanes-requires-2 : tie.Need-lanes-requires-2 Inv-loop μ-loop
 lanes-requires-2 c κs = search needs
 
 mul-hi : tie.Need-mul-hi Inv-loop μ-loop
-mul-hi c = let v = c .before .before .before .before .before .loop .inv in omega (arith, v .7 .fewer, v .0 .locator .hi-long, v .6)
+mul-hi c =
+    let v = c .before .before .before .before .before .loop .inv in
+    omega (arith, v .7 .fewer, v .0 .locator .hi-long, v .6)
 
 slice-write-hi : tie.Need-slice-write-hi Inv-loop μ-loop
-slice-write-hi c = let v = c .before .before .before .before .before .loop .inv in omega (arith, v .7 .fewer, v .0 .locator .hi-long, v .6)
+slice-write-hi c =
+    let v = c .before .before .before .before .before .loop .inv in
+    omega (arith, v .7 .fewer, v .0 .locator .hi-long, v .6)
 
 some-requires : tie.Need-some-requires Inv-loop μ-loop
 some-requires c κs = search needs
@@ -104,7 +108,7 @@ add-k : tie.Need-add-k Inv-loop μ-loop
 add-k c = search needs
 
 loop-less : tie.Need-loop-less Inv-loop μ-loop
-loop-less c = search needs
+loop-less c = omega arith
 
 loop-again : tie.Need-loop-again Inv-loop μ-loop
 loop-again c =
@@ -119,7 +123,8 @@ loop-again c =
       simp length-set (v .5),
       simp length-set (v .6),
       walking-more (v .0) (t .loop-test .taken) (v .3) (v .4) (v .5) (v .6) (b .0) (b .1) (b .2)
-          (c .before .before .before .before .lanes .ensures) (c .before .before .before .lanes2 .ensures) (v .1) (c .before .step .ensures) (c .times-x2 .ensures) (v .7),
+          (c .before .before .before .before .lanes .ensures) (c .before .before .before .lanes2 .ensures)
+          (v .1) (c .before .step .ensures) (c .times-x2 .ensures) (v .7),
     )
 
 same-length : tie.Need-same-length Inv-loop μ-loop

@@ -5,64 +5,79 @@ use mathlib.Core.Path.{_≡_, refl, sym, ap, _∙_}
 use Prim.Native.Nat.{ℕ, _-_, _/_, _^_, _≤_}
 use lib.ListN.{length}
 use lib.Pow.{pow-mono}
-use Rattle.syndrome.specs.Value.{Testable}
-use Rattle.syndrome.proofs.Computing.{valuable, value-here, Testing, testing-start, testing-more, testing-end, testing-wrong}
+use Rattle.syndrome.specs.Value.{Listed, Testable}
+use Rattle.syndrome.proofs.Computing.{testable-on, by-lt, valuable, value-here, Testing, testing-start, testing-more, testing-end, testing-wrong}
 use Rattle.syndrome.proofs.test.is_codeword.Statement.{statement}
 use Rattle.syndrome.proofs.test.is_codeword.Tie as tie
 use Rattle.syndrome.proofs.test.is_codeword.Reads as reads
 use Rattle.syndrome.proofs.test.is_codeword.Lts as lts
 use Rattle.field.proofs.arithmetic.order.Reads as order-reads
+use Rattle.syndrome.proofs.ones.ones.Reads as ones-reads
 use Rattle.syndrome.proofs.value.value.Reads as value-reads
 
 abbrev Inv-loop : tie.InvT-loop
-Inv-loop w n s reps e q count k₀ k = Testable n s w reps e × (q ≡ (2 ^ s - 1) / n) × (count ≡ length reps) × (k ≤ count) × Testing n s k w reps
+Inv-loop w n s reps e list c q count k₀ k = Testable n s w reps e list × Listed n w list c × (q ≡ (2 ^ s - 1) / n) × (count ≡ length reps) × (k ≤ count) × Testing n s k w reps
 
 abbrev μ-loop : tie.MeasureT-loop
-μ-loop w n s reps e q count k₀ k = count - k
+μ-loop w n s reps e list c q count k₀ k = count - k
+
+ones-requires : tie.Need-ones-requires Inv-loop μ-loop
+ones-requires c κs = c .before .before .before .before .before .pre .listable
 
 order-requires : tie.Need-order-requires Inv-loop μ-loop
-order-requires c κs = c .before .before .before .pre .degree
+order-requires c κs = c .before .before .before .before .before .before .before .before .pre .powered .degree
 
 div-q : tie.Need-div-q Inv-loop μ-loop
-div-q c = omega (arith, c .before .before .before .before .pre .odd .least)
+div-q c = omega (arith, c .before .before .before .before .before .before .before .before .before .pre .odd .least)
 
 loop-holds : tie.Need-loop-holds Inv-loop μ-loop
-loop-holds c = (c .before .before .before .before .pre, ap (λ (x : ℕ). x / c .before .before .before .before .args .n) (c .order .ensures), refl, omega arith, testing-start)
+loop-holds c = (testable-on (omega (arith, c .before .before .before .ones .kept .1 .1 .0)) (c .before .before .before .before .before .before .before .before .before .pre), c .before .before .before .ones .ensures, ap (λ (x : ℕ). x / c .before .before .before .before .before .before .before .before .before .args .n) (c .order .ensures), refl, omega arith, testing-start)
 
 shared-slice-read-r : tie.Need-shared-slice-read-r Inv-loop μ-loop
-shared-slice-read-r c = let v = c .before .before .loop .inv in omega (arith, v .2)
+shared-slice-read-r c = let v = c .before .before .loop .inv in omega (arith, v .3)
 
 cast-r : tie.Need-cast-r Inv-loop μ-loop
 cast-r c = omega (arith, c .shared-slice-known4 .given (c .before .before .loop .k))
 
 mul-value : tie.Need-mul-value Inv-loop μ-loop
-mul-value c = let v = c .before .before .loop .inv in let b : 2 ^ c .before .before .before .before .before .before .before .args .s ≤ 2 ^ 12 = pow-mono (v .0 .degree .hi) in
-    omega (arith, valuable (v .0) (v .1) {k = c .before .before .loop .k} (omega (arith, v .2)) refl .by-lt)
+mul-value c = let v = c .before .before .before .loop .inv in let b : 2 ^ c .before .before .before .before .before .before .before .before .before .before .before .before .before .args .s ≤ 2 ^ 12 = pow-mono (v .0 .powered .degree .hi) in
+    omega (arith, by-lt (v .0) (v .2) {k = c .before .before .before .loop .k} (omega (arith, v .3)) refl)
+
+cast-value : tie.Need-cast-value Inv-loop μ-loop
+cast-value c = let v = c .before .before .before .loop .inv in let b : 2 ^ c .before .before .before .before .before .before .before .before .before .before .before .before .before .args .s ≤ 2 ^ 12 = pow-mono (v .0 .powered .degree .hi) in
+    omega (arith, by-lt (v .0) (v .2) {k = c .before .before .before .loop .k} (omega (arith, v .3)) refl)
 
 value-requires : tie.Need-value-requires Inv-loop μ-loop
-value-requires c κs = let v = c .before .before .loop .inv in valuable (v .0) (v .1) {k = c .before .before .loop .k} (omega (arith, v .2)) refl
+value-requires c κs = let v = c .before .before .before .loop .inv in valuable (v .0) (v .2) {k = c .before .before .before .loop .k} (omega (arith, v .3)) refl (v .1)
+
+same-length : tie.Need-same-length Inv-loop μ-loop
+same-length c = omega (arith, c .before .before .before .before .before .before .before .before .before .ones .kept .1 .1 .0)
 
 returns : tie.Need-returns Inv-loop μ-loop
-returns c = let v = c .before .before .before .before .loop .inv in
-    testing-wrong {k = c .before .before .before .before .loop .k} (v .0) (omega (arith, v .2)) refl (c .if1 .taken) (value-here (v .0) (v .1) {k = c .before .before .before .before .loop .k} (omega (arith, v .2)) refl (c .before .value .ensures))
+returns c = let v = c .before .before .before .before .before .loop .inv in
+    testing-wrong {k = c .before .before .before .before .before .loop .k} (v .0) (omega (arith, v .3)) refl (c .if1 .taken) (value-here (v .0) (v .2) _ (v .1) (c .before .value .ensures .0))
 
 add-k : tie.Need-add-k Inv-loop μ-loop
-add-k c = let v = c .before .before .before .before .loop .inv in omega (arith, v .2)
+add-k c = let v = c .before .before .before .before .before .loop .inv in omega (arith, v .3)
 
 loop-less : tie.Need-loop-less Inv-loop μ-loop
 loop-less c = omega arith
 
 loop-again : tie.Need-loop-again Inv-loop μ-loop
-loop-again c = let v = c .before .before .before .before .loop .inv in (
+loop-again c = let v = c .before .before .before .before .before .loop .inv in (
   v .0,
   v .1,
   v .2,
+  v .3,
   omega arith,
-  testing-more (v .4) refl (λ x hx l. sym (c .if1 .left) ∙ value-here (v .0) (v .1) {k = c .before .before .before .before .loop .k} (omega (arith, v .2)) refl (c .before .value .ensures) x hx l),
+  testing-more (v .5) refl (λ x hx l. sym (c .if1 .left) ∙ value-here (v .0) (v .2) _ (v .1) (c .before .value .ensures .0) x hx l),
 )
 
+same-length-2 : tie.Need-same-length-2 Inv-loop μ-loop
+same-length-2 c = omega (arith, c .before .before .before .before .before .ones .kept .1 .1 .0)
+
 returns-2 : tie.Need-returns-2 Inv-loop μ-loop
-returns-2 c = let v = c .before .loop .inv in testing-end (v .0) (omega (arith, v .2)) (v .4)
+returns-2 c = let v = c .before .loop .inv in testing-end (v .0) (omega (arith, v .3)) (v .5)
 
 pub is-codeword-spec : {M : Type 1} → statement M
 is-codeword-spec =
@@ -70,15 +85,19 @@ is-codeword-spec =
     (tie.spec
     Inv-loop
     μ-loop
+    ones-requires
     order-requires
     div-q
     loop-holds
     shared-slice-read-r
     cast-r
     mul-value
+    cast-value
     value-requires
+    same-length
     returns
     add-k
     loop-less
     loop-again
+    same-length-2
     returns-2)

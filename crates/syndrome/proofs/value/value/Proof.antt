@@ -1,52 +1,45 @@
--- `syndrome::value::value` meets its contract: the first i places are in the sum, and x is the exponent of the next.
 use borrow.Author.Needs.{needs}
 use native.Mathlib.Omega.{arith}
-use mathlib.Core.Path.{_≡_, sym, ap, _∙_, subst}
-use Prim.Native.Nat.{ℕ, _-_, _^_, _≤_, _<_}
-use lib.Pow.{pow-mono}
+-- `syndrome::value::value` meets its contract: the first k places of the list are in the sum.
+use Prim.Native.Nat.{ℕ, _-_, _≤_}
+use mathlib.Core.Path.{_≡_, subst}
 use Rattle.syndrome.specs.Value.{Valuable}
 use Rattle.syndrome.proofs.Values.{Valuing, valuing-start, valuing-more, valuing-end}
 use Rattle.syndrome.proofs.value.value.Statement.{statement}
 use Rattle.syndrome.proofs.value.value.Tie as tie
+use Rattle.syndrome.proofs.value.value.Reads as reads
+use Rattle.syndrome.proofs.value.value.Lts as lts
+use Rattle.tables.proofs.exponent.term.Reads as term-reads
 
 abbrev Inv-loop : tie.InvT-loop
-Inv-loop w n s by e end acc₀ x₀ i₀ acc x i = Valuable n s by w e × (end ≡ 2 ^ s - 1) × (i ≤ n) × Valuing n s by i x acc w
+Inv-loop list c s by e acc₀ k₀ acc k = Valuable c s by list e × (k ≤ c) × Valuing s by k acc list
 
 abbrev μ-loop : tie.MeasureT-loop
-μ-loop w n s by e end acc₀ x₀ i₀ acc x i = n - i
-
-order-requires : tie.Need-order-requires Inv-loop μ-loop
-order-requires c κs = c .before .before .pre .degree
+μ-loop list c s by e acc₀ k₀ acc k = c - k
 
 loop-holds : tie.Need-loop-holds Inv-loop μ-loop
-loop-holds c = let v = c .before .before .before .pre in (v, c .order .ensures, omega arith, valuing-start v)
+loop-holds c = (c .before .before .pre, omega arith, valuing-start)
 
-shared-slice-read-add-where : tie.Need-shared-slice-read-add-where Inv-loop μ-loop
-shared-slice-read-add-where c = let v = c .before .before .loop .inv in omega (arith, v .0 .w-long)
+shared-slice-read-term : tie.Need-shared-slice-read-term Inv-loop μ-loop
+shared-slice-read-term c = let v = c .before .before .loop .inv in omega (arith, v .0 .long)
 
-mul-add-where : tie.Need-mul-add-where Inv-loop μ-loop
-mul-add-where c = let v = c .before .before .loop .inv in omega (arith, v .0 .e-long, v .3 .x-lt)
+cast-term : tie.Need-cast-term Inv-loop μ-loop
+cast-term c = omega (arith, c .shared-slice-known3 .given (c .before .before .loop .k))
 
-shared-slice-read-add-where-2 : tie.Need-shared-slice-read-add-where-2 Inv-loop μ-loop
-shared-slice-read-add-where-2 c = let v = c .before .before .before .loop .inv in omega (arith, v .0 .e-long, v .3 .x-lt)
+term-requires : tie.Need-term-requires Inv-loop μ-loop
+term-requires c κs = let v = c .before .before .loop .inv in (v .0 .powered, omega (arith, v .0 .by-lt), v .0 .by-lt, v .0 .below (c .before .before .loop .k) (omega arith))
 
-add-where-requires : tie.Need-add-where-requires Inv-loop μ-loop
-add-where-requires c κs = search needs
-
-step-requires : tie.Need-step-requires Inv-loop μ-loop
-step-requires c κs = let v = c .before .before .before .before .loop .inv in let b : 2 ^ c .before .before .before .before .before .before .before .before .args .s ≤ 2 ^ 12 = pow-mono (v .0 .degree .hi) in (omega (arith, v .1, v .3 .x-lt), omega (arith, v .1, v .0 .by-lt), omega (arith, v .1))
-
-add-i : tie.Need-add-i Inv-loop μ-loop
-add-i c = let v = c .before .before .before .before .before .loop .inv in omega (arith, v .0 .few)
+add-k : tie.Need-add-k Inv-loop μ-loop
+add-k c = let v = c .before .before .before .loop .inv in omega (arith, v .0 .few)
 
 loop-less : tie.Need-loop-less Inv-loop μ-loop
 loop-less c = omega arith
 
 loop-again : tie.Need-loop-again Inv-loop μ-loop
-loop-again c = let v = c .before .before .before .before .before .loop .inv in (v .0, v .1, omega arith, valuing-more (v .0) (v .3) (c .before .add-where .ensures) (v .1) (c .step .ensures))
+loop-again c = let v = c .before .before .before .loop .inv in (v .0, omega arith, valuing-more (v .0) (v .2) (c .term .ensures))
 
 returns : tie.Need-returns Inv-loop μ-loop
-returns c = let v = c .before .loop .inv in valuing-end (omega (arith, v .2)) (v .3)
+returns c = let v = c .before .loop .inv in valuing-end (omega (arith, v .1)) (v .2)
 
 pub value-spec : {M : Type 1} → statement M
 value-spec =
@@ -54,14 +47,11 @@ value-spec =
     (tie.spec
     Inv-loop
     μ-loop
-    order-requires
     loop-holds
-    shared-slice-read-add-where
-    mul-add-where
-    shared-slice-read-add-where-2
-    add-where-requires
-    step-requires
-    add-i
+    shared-slice-read-term
+    cast-term
+    term-requires
+    add-k
     loop-less
     loop-again
     returns)

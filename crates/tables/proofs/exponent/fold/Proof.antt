@@ -1,12 +1,12 @@
--- `locating::place::fold` meets its contract.
+-- `tables::exponent::fold` meets its contract.
 use borrow.Author.Needs.{needs}
 use native.Mathlib.Omega.{arith}
 use mathlib.Core.Path.{ap}
 use Prim.Native.Nat.{ℕ, _+_, _/_, _^_}
 use Rattle.field.proofs.Primitive.{Degree-bounds}
-use Rattle.locating.proofs.Exponents.{masked, folded-lt}
-use Rattle.locating.proofs.place.fold.Statement.{statement}
-use Rattle.locating.proofs.place.fold.Tie as tie
+use Rattle.tables.proofs.Exponents.{masked, folded-lt}
+use Rattle.tables.proofs.exponent.fold.Statement.{statement}
+use Rattle.tables.proofs.exponent.fold.Tie as tie
 
 order-requires : tie.Need-order-requires
 order-requires c κs = search needs

@@ -1,9 +1,9 @@
--- `locating::place::term` meets its contract.
+-- `tables::exponent::term` meets its contract.
 use borrow.Author.Needs.{needs}
 use native.Mathlib.Omega.{arith}
-use Rattle.locating.proofs.Exponents.{exponent-lt, exponent-cap, looked}
-use Rattle.locating.proofs.place.term.Statement.{statement}
-use Rattle.locating.proofs.place.term.Tie as tie
+use Rattle.tables.proofs.Exponents.{exponent-lt, exponent-cap, looked}
+use Rattle.tables.proofs.exponent.term.Statement.{statement}
+use Rattle.tables.proofs.exponent.term.Tie as tie
 
 mul-fold : tie.Need-mul-fold
 mul-fold c = let p = c .before .pre in omega (arith, exponent-cap (p .0 .degree) (p .3) (p .2))

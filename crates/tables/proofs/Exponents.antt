@@ -15,7 +15,7 @@ use lib.Pow.{pow-pos}
 use Rattle.field.specs.Field.{Degree, ω, fieldPower}
 use Rattle.field.proofs.Primitive.{Degree-bounds}
 use Rattle.field.proofs.Numbers.{power-round}
-use Rattle.locating.specs.Terms.{Powered}
+use Rattle.tables.specs.Tables.{Powered}
 
 module _ {s : ℕ} (d : Degree s) where
   power-rounds : (k b : ℕ) → fieldPower s ω (k + b * (2 ^ s - 1)) ≡ fieldPower s ω k

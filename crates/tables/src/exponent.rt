@@ -1,0 +1,23 @@
+// Powers of ω whose exponent is a product: the table is read with no division.
+ghost use mathlib.Core.Path.{_≡_};
+ghost use Prim.Native.Nat.{_+_, _-_, _*_, _/_, _%_, _^_, _<_};
+ghost use Rattle.field.specs.Field.{Degree, ω, fieldPower};
+ghost use Rattle.tables.specs.Tables.{Powered};
+use field::arithmetic::order;
+
+// An exponent with its high part added to the low one: ω has order 2^s - 1, so the power is the same.
+pub fn fold(y: usize, s: usize) -> usize
+    requires { ⌜ Degree s × (y < (2 ^ s - 1) * 2 ^ s) ⌝ }
+    ensures { λ r. ⌜ (r ≡ y % 2 ^ s + y / 2 ^ s) × (r < 2 * (2 ^ s - 1)) ⌝ }
+{
+    (y & order(s)) + (y >> s)
+}
+
+// ω^(l + i a)
+pub fn term(l: u16, a: u16, i: usize, s: usize, e: &[u16]) -> u16
+    requires { ⌜ Powered s (now e) × (l < 2 ^ s - 1) × (a < 2 ^ s - 1) × (i < 2 ^ s - 1) ⌝ }
+    ensures { λ r. ⌜ r ≡ fieldPower s ω (l + i * a) ⌝ }
+{
+    let y = fold(i * (a as usize), s);
+    e[(l as usize) + y]
+}

@@ -4,6 +4,7 @@
 --   stop-fits, f-small, few      t u is at most L, f below 512, L at most 1,023
 --   marked-v, marked-x      the slice that holds the locator
 --   passed-many, passed-yes, passed-no      the exits of the last test
+--   corrected-clean      a codeword stays as it is
 --   exit-many, exit-tested, passed      what they say of the received word
 --   corrected        all of it
 use mathlib.Core.Path.{_≡_, refl, sym, ap, ap₂, _∙_, subst}
@@ -41,7 +42,7 @@ use Rattle.certificate.proofs.Ranges.{Ranged}
 use Rattle.certificate.proofs.Checks.{modulus-of, walkable-ranged}
 use Rattle.certificate.proofs.Terms.{f-fits}
 use Rattle.distance.proofs.Rules.{Sound, in-range, theory}
-use Rattle.distance.proofs.Distance.{Word}
+use Rattle.distance.proofs.Distance.{Word, differences-self}
 use Rattle.binary.specs.Bits.{Holds}
 use Rattle.poly.specs.Slice.{Small, Short, series}
 use Rattle.poly.specs.Key.{Solvable, Key, Solved, Outcome}
@@ -214,6 +215,15 @@ module _ {n t m : ℕ} {w reps : List ℕ} where
       yes = λ _ q. absurd (differ (sym q ∙ e));
       no = λ _ _. refl;
     }
+
+-- ---- a codeword stays as it is
+pub corrected-clean : {n t : ℕ} {w reps : List ℕ} {clean : Bool} → Tested n w reps clean → clean ≡ true → Corrected n t reps w w (Places 0)
+corrected-clean {n} {t} y e = record {
+  found = λ {r} hr lr q.
+      let z = ap (λ (l : List ℕ). getD l 0 0) q in
+      (r, record { small = lr; is = sym (y .is r hr lr) ∙ e }, sym z ∙ sym (differences-self n r), subst (λ (u : ℕ). u ≤ t) z (omega arith), hr);
+  none = λ hr lr q. let z : _≡_ {A = ℕ} 1 0 = ap length q in absurd (omega arith);
+}
 
 -- ---- the exits, where s is the code's own degree
 module _ {n t : ℕ} {c : CodeCertificate} {reps : List ℕ} (p : Given n (orderOfTwo n) t c reps) {w w′ val b b′ lam : List ℕ} {τ len m : ℕ}

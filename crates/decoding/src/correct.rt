@@ -86,7 +86,9 @@ pub fn correct(
     requires { ⌜ Correctable n s t c (now reps) (now e) (now g) (now list) (now val) (now a) (now b) (now v) (now x) (now lg) (now st) (now lo) (now hi) (now w) ⌝ }
     ensures { λ r. ⌜ Corrected n t (now (reps .entry)) (now (w .entry)) (now (w .exit)) r ⌝ }
 {
-    values(w, n, s, reps, e, g, list, val);
+    if values(w, n, s, reps, e, g, list, val) {
+        return Correction::Places(0);
+    }
     syndromes(n, c, val, b);
     let u = degree(c.f);
     let found = euclid(s, a, b, v, x, c.terms, c.terms - t * u, e, g);

@@ -44,7 +44,7 @@ count-none : (n : ℕ) → count n 0 ≡ 0
 count-none zero = count-z 0
 count-none (suc n) = count-s n 0 ∙ ap₂ _+_ (count-none n) (coefficient-zero n)
 
-differences-self : (n a : ℕ) → differences n a a ≡ 0
+pub differences-self : (n a : ℕ) → differences n a a ≡ 0
 differences-self n a = differences-are n a a ∙ ap (count n) (⊕-self a) ∙ count-none n
 
 differences-add : (n a b d : ℕ) → differences n (a ⊕ d) (b ⊕ d) ≡ differences n a b

@@ -6,21 +6,25 @@
 --   Computing, computing-start, computing-more, computing-end      the first k representatives with their cosets
 --   powered-of, computable-on, testable-on, testable, by-lt, valuable, value-here, spreadable      what the parts need
 --   Testing, testing-start, testing-more, testing-end, testing-wrong      a codeword is 0 at each representative
-use mathlib.Core.Path.{_≡_, refl, sym, ap, _∙_, subst}
+--   Quiet, quiet-zero, quiet-other, quiet-start, quiet-more, quiet-end      whether the values so far are 0
+use mathlib.Core.Path.{_≡_, refl, sym, ap, ap₂, _∙_, subst}
 use mathlib.Core.Logic.{_≢_}
-use mathlib.Core.Bool.{Bool, true, false}
+use mathlib.Core.Bool.{Bool, true, false, _&&_}
 use mathlib.Core.List.{List, [], _∷_}
 use Prim.Native.Nat.{ℕ, zero, suc, _+_, _-_, _*_, _/_, _%_, _^_, _≤_, _<_, _∣_}
 use native.Mathlib.Nat.{div-mul-cancel, mul-comm, mul-le-mul-left, mul-le-mul-right, mul-one, suc-mul, zero-mul}
 use native.Mathlib.Decide.{ℕ-discrete, decLt}
 use native.Mathlib.Omega.{arith}
+use lib.Dec.{eqb}
 use lib.ListN.{length, getD}
 use lib.Pow.{pow-mono}
+use borrow.Author.Tests.{eq-eqb, ne-eqb}
 use Rattle.algebra.proofs.Lists.{All, all-of, all-at, In, here, there}
 use Rattle.field.specs.Mask.{_⊕_, size}
 use Rattle.field.specs.Field.{Degree, OddLength, orderOfTwo, ω, α, fieldPower}
 use Rattle.field.proofs.OrderOfTwo.{order-divides}
 use Rattle.field.proofs.Product.{size-lt}
+use Rattle.field.proofs.Search.{true-ne-false}
 use Rattle.field.proofs.Xor.{⊕-zero-r}
 use Rattle.cyclic.proofs.Places.{coefficient-above}
 use Rattle.document.specs.Generator.{valueBelow, valueAt}
@@ -238,3 +242,51 @@ testing-wrong {n} {s} {k} {r} {v} {w} {reps} p h e ne f = record {
         (ne
         (q ∙ ap (λ (x : ℕ). valueAt x (fieldPower x (α x n) r) c) (p .s-is)
         ∙ all-at (g refl) (subst (λ (x : ℕ). In x reps) (sym e) (at-in reps k h))))
+
+-- ---- the same beside the values: quiet as long as all are 0
+pub record Quiet (n s k : ℕ) (w reps : List ℕ) (quiet : Bool) : Type 0 where
+  pub yes : quiet ≡ true → Testing n s k w reps
+  pub no : quiet ≡ false → Tested n w reps false
+
+pub quiet-zero : {clean : Bool} {v : ℕ} → v ≡ 0 → clean ≡ clean && eqb v 0
+quiet-zero {clean} {v} z = sym (ap (λ b. clean && b) (eq-eqb v 0 z) ∙ and-true clean)
+  where
+    and-true : (b : Bool) → b && true ≡ b
+    and-true true = refl
+    and-true false = refl
+
+pub quiet-other : (clean : Bool) {v : ℕ} → v ≢ 0 → false ≡ clean && eqb v 0
+quiet-other clean {v} z = sym (ap (λ b. clean && b) (ne-eqb v 0 z) ∙ and-false clean)
+  where
+    and-false : (b : Bool) → b && false ≡ false
+    and-false true = refl
+    and-false false = refl
+
+pub quiet-start : {n s : ℕ} {w reps : List ℕ} → Quiet n s 0 w reps true
+quiet-start = record { yes = λ e. testing-start; no = λ e. absurd (true-ne-false refl e) }
+
+pub quiet-more : {n s k r v : ℕ} {w reps e list : List ℕ} {quiet : Bool} → Testable n s w reps e list → k < length reps → r ≡ getD reps k 0
+    → ((c : ℕ) → Holds c w → c < 2 ^ n → v ≡ valueOf n s c r) → Quiet n s k w reps quiet → Quiet n s (k + 1) w reps (quiet && eqb v 0)
+quiet-more {n} {s} {k} {r} {v} {w} {reps} {quiet = quiet} p h e f t = go quiet refl (ℕ-discrete v 0)
+  where
+    go : (b : Bool) → quiet ≡ b → Dec (v ≡ 0) → Quiet n s (k + 1) w reps (quiet && eqb v 0)
+    go false q d =
+        subst (Quiet n s (k + 1) w reps) (sym (ap (λ b. b && eqb v 0) q))
+        record { yes = λ o. absurd (true-ne-false o refl); no = λ o. t .no q }
+    go true q (yes z) =
+        subst (Quiet n s (k + 1) w reps) (sym (ap₂ _&&_ q (eq-eqb v 0 z)))
+        record {
+          yes = λ o. testing-more (t .yes q) e (λ c hc l. sym z ∙ f c hc l);
+          no = λ o. absurd (true-ne-false refl o);
+        }
+    go true q (no z) =
+        subst (Quiet n s (k + 1) w reps) (sym (ap₂ _&&_ q (ne-eqb v 0 z)))
+        record { yes = λ o. absurd (true-ne-false o refl); no = λ o. testing-wrong {k = k} p h e z f }
+
+pub quiet-end : {n s k : ℕ} {w reps e list : List ℕ} {quiet : Bool} → Testable n s w reps e list → length reps ≤ k → Quiet n s k w reps quiet
+    → Tested n w reps quiet
+quiet-end {n} {w = w} {reps} {quiet = quiet} p h t = go quiet refl
+  where
+    go : (b : Bool) → quiet ≡ b → Tested n w reps quiet
+    go true q = subst (Tested n w reps) (sym q) (testing-end p h (t .yes q))
+    go false q = subst (Tested n w reps) (sym q) (t .no q)

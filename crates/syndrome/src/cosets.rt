@@ -1,5 +1,8 @@
 // Values along cosets: the value at a square is the square of the value.
-ghost use Rattle.syndrome.specs.Value.{Spreadable, Spread, Computable, Computed};
+ghost use mathlib.Core.Path.{_≡_};
+ghost use mathlib.Core.Bool.{_&&_};
+ghost use lib.Dec.{eqb};
+ghost use Rattle.syndrome.specs.Value.{Spreadable, Spread, Computable, Computed, Tested};
 use crate::ones::ones;
 use crate::value::value;
 use field::arithmetic::order;
@@ -22,8 +25,15 @@ pub fn spread(n: usize, s: usize, r: usize, v: u16, e: &[u16], g: &[u16], val: &
     }
 }
 
+// Whether all values so far are 0.
+fn quiet(clean: bool, v: u16) -> bool
+    ensures { λ r. ⌜ r ≡ clean && eqb v 0 ⌝ }
+{
+    if v == 0 { clean } else { false }
+}
+
 // The values of a word at α^i for every i of D: those at the representatives from its places, the others along the cosets.
-// `list` is room.
+// The word is a codeword if those at the representatives are 0. `list` is room.
 pub fn values(
     w: &[u8],
     n: usize,
@@ -33,18 +43,21 @@ pub fn values(
     g: &[u16],
     list: &mut [u8],
     val: &mut [u16],
-)
+) -> bool
     requires { ⌜ Computable n s (now w) (now reps) (now e) (now g) (now list) (now val) ⌝ }
-    ensures { λ _. ⌜ Computed n s (now (w .entry)) (now (reps .entry)) (now (val .exit)) ⌝ }
+    ensures { λ r. ⌜ Computed n s (now (w .entry)) (now (reps .entry)) (now (val .exit)) × Tested n (now (w .entry)) (now (reps .entry)) r ⌝ }
 {
     let c = ones(w, n, list);
     let q = order(s) / n;
     let count = reps.len();
+    let mut clean = true;
     let mut k: usize = 0;
     while k < count {
         let r = reps[k] as usize;
         k = k + 1;
         let v = value(list, c, s, (r * q) as u16, e);
+        clean = quiet(clean, v);
         spread(n, s, r, v, e, g, val);
     }
+    clean
 }

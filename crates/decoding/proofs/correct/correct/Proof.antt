@@ -1,7 +1,7 @@
 use native.Mathlib.Omega.{arith}
 -- `decoding::correct::correct` meets its contract: values, syndromes, rows, places, verdict.
 use mathlib.Core.Path.{refl}
-use Rattle.decoding.proofs.Correcting.{computable, walkable, testable, solvable, searchable, stop-fits, f-small, few, corrected}
+use Rattle.decoding.proofs.Correcting.{computable, walkable, testable, solvable, searchable, stop-fits, f-small, few, corrected, corrected-clean}
 use borrow.Author.Needs.{needs}
 use Rattle.decoding.proofs.correct.correct.Statement.{statement}
 use Rattle.decoding.proofs.correct.correct.Tie as tie
@@ -17,51 +17,52 @@ use Rattle.syndrome.proofs.series.syndromes.Reads as syndromes-reads
 values-requires : tie.Need-values-requires
 values-requires c κs = computable (c .before .before .before .before .before .before .before .before .before .before .before .before .before .before .before .before .before .pre)
 
-syndromes-requires : tie.Need-syndromes-requires
-syndromes-requires c κs = let p = c .before .before .before .before .before .before .before .before .before .before .before .before .before .before .before .before .before .before .before .before .before .before .before .before .pre in (walkable p (omega (arith, c .before .before .before .before .before .before .values .kept .1 .1 .1 .1 .1 .1 .1 .0)), omega (arith, p .room .b-long))
-
-degree-requires : tie.Need-degree-requires
-degree-requires c κs = omega (arith, f-small (c .before .before .before .before .before .before .before .before .before .before .before .before .before .before .before .before .before .before .before .before .before .before .before .before .before .before .before .pre))
-
-mul-euclid : tie.Need-mul-euclid
-mul-euclid c = let p = c .before .before .before .before .before .before .before .before .before .before .before .before .before .before .before .before .before .before .before .before .before .before .before .before .before .before .before .before .before .before .before .before .pre in omega (arith, stop-fits (p .given) (c .before .before .before .before .degree .ensures), few p)
-
-sub-euclid : tie.Need-sub-euclid
-sub-euclid c = omega (arith, stop-fits (c .before .before .before .before .before .before .before .before .before .before .before .before .before .before .before .before .before .before .before .before .before .before .before .before .before .before .before .before .before .before .before .before .before .pre .given) (c .before .before .before .before .before .degree .ensures))
-
-euclid-requires : tie.Need-euclid-requires
-euclid-requires c κs = solvable (c .before .before .before .before .before .before .before .before .before .before .before .before .before .before .before .before .before .before .before .before .before .before .before .before .before .before .before .before .before .before .before .before .before .pre) (c .before .before .before .before .before .degree .ensures) (c .before .before .before .before .before .before .before .before .before .before .before .before .before .before .before .values .ensures) (c .before .before .before .before .before .before .before .before .syndromes .ensures)
-    (omega (arith, c .before .before .before .before .before .before .before .before .syndromes .kept .1 .1 .1 .0))
-
-change-marked-requires : tie.Need-change-marked-requires
-change-marked-requires c κs = searchable (c .before .before .before .before .before .before .before .before .before .before .before .before .before .before .before .before .before .before .before .before .before .before .before .before .before .before .before .before .before .before .before .before .before .before .before .before .before .before .before .before .before .before .before .before .before .before .before .before .before .pre) (c .before .before .before .before .before .before .before .before .before .before .before .before .before .before .before .before .before .before .before .before .before .degree .ensures) (c .before .before .before .before .before .before .before .before .before .before .before .before .before .before .before .euclid .ensures)
-    (omega (arith, c .before .before .before .before .before .before .before .before .before .before .before .before .before .before .before .euclid .kept .1 .1 .1 .0)) (omega (arith, c .before .before .before .before .before .before .before .before .before .before .before .before .before .before .before .euclid .kept .1 .1 .1 .1 .0))
-
-verdict-requires : tie.Need-verdict-requires
-verdict-requires c κs = testable (c .before .before .before .before .before .before .before .before .before .before .before .before .before .before .before .before .before .before .before .before .before .before .before .before .before .before .before .before .before .before .before .before .before .before .before .before .before .before .before .before .before .before .before .before .before .before .before .before .before .before .before .before .before .before .before .before .before .before .before .before .before .before .pre) (c .before .before .before .before .before .before .before .before .before .before .before .before .change-marked .ensures)
-    (omega (arith, c .before .before .before .before .before .before .before .before .before .before .before .before .change-marked .kept .1 .1 .1 .1 .1 .1 .1 .1 .1 .1 .1 .1 .1 .1 .0))
-    (omega (arith, c .before .before .before .before .before .before .before .before .before .before .before .before .before .before .before .before .before .before .before .before .before .before .before .before .before .before .before .before .before .before .before .before .before .before .before .before .before .before .before .before .before .before .before .before .values .kept .1 .1 .1 .1 .1 .1 .0))
-
 same-length : tie.Need-same-length
-same-length c = omega (arith, c .before .before .before .before .before .before .before .before .before .before .before .before .before .before .before .before .before .before .before .before .before .before .before .before .before .before .before .before .before .before .before .before .before .before .before .before .before .before .before .before .before .before .before .before .before .before .before .values .kept .1 .1 .1 .1 .1 .1 .0, c .before .before .verdict .kept .1 .1 .1 .1 .1 .1 .1 .0)
+same-length c = search needs
 
 same-length-2 : tie.Need-same-length-2
-same-length-2 c = omega (arith, c .before .before .before .before .before .before .before .before .before .before .before .before .before .before .before .before .before .before .before .before .before .before .before .before .before .before .before .before .before .before .before .before .before .before .before .before .before .before .before .before .before .before .before .before .before .before .before .values .kept .1 .1 .1 .1 .1 .1 .1 .0)
+same-length-2 c = search needs
 
 same-length-3 : tie.Need-same-length-3
 same-length-3 c = search needs
 
+returns : tie.Need-returns
+returns c = corrected-clean (c .before .before .before .before .before .values .ensures .1) (c .if1 .taken)
+
+syndromes-requires : tie.Need-syndromes-requires
+syndromes-requires c κs = let p = c .before .before .before .before .before .before .before .before .before .before .before .before .before .before .before .before .before .before .before .before .before .before .before .before .before .pre in (walkable p (omega (arith, c .before .before .before .before .before .before .before .values .kept .1 .1 .1 .1 .1 .1 .1 .0)), omega (arith, p .room .b-long))
+
+degree-requires : tie.Need-degree-requires
+degree-requires c κs = omega (arith, f-small (c .before .before .before .before .before .before .before .before .before .before .before .before .before .before .before .before .before .before .before .before .before .before .before .before .before .before .before .before .pre))
+
+mul-euclid : tie.Need-mul-euclid
+mul-euclid c = let p = c .before .before .before .before .before .before .before .before .before .before .before .before .before .before .before .before .before .before .before .before .before .before .before .before .before .before .before .before .before .before .before .before .before .pre in omega (arith, stop-fits (p .given) (c .before .before .before .before .degree .ensures), few p)
+
+sub-euclid : tie.Need-sub-euclid
+sub-euclid c = omega (arith, stop-fits (c .before .before .before .before .before .before .before .before .before .before .before .before .before .before .before .before .before .before .before .before .before .before .before .before .before .before .before .before .before .before .before .before .before .before .pre .given) (c .before .before .before .before .before .degree .ensures))
+
+euclid-requires : tie.Need-euclid-requires
+euclid-requires c κs = solvable (c .before .before .before .before .before .before .before .before .before .before .before .before .before .before .before .before .before .before .before .before .before .before .before .before .before .before .before .before .before .before .before .before .before .before .pre) (c .before .before .before .before .before .degree .ensures) (c .before .before .before .before .before .before .before .before .before .before .before .before .before .before .before .before .values .ensures .0) (c .before .before .before .before .before .before .before .before .syndromes .ensures) (omega (arith, c .before .before .before .before .before .before .before .before .syndromes .kept .1 .1 .1 .0))
+
+change-marked-requires : tie.Need-change-marked-requires
+change-marked-requires c κs = searchable (c .before .before .before .before .before .before .before .before .before .before .before .before .before .before .before .before .before .before .before .before .before .before .before .before .before .before .before .before .before .before .before .before .before .before .before .before .before .before .before .before .before .before .before .before .before .before .before .before .before .before .pre) (c .before .before .before .before .before .before .before .before .before .before .before .before .before .before .before .before .before .before .before .before .before .degree .ensures) (c .before .before .before .before .before .before .before .before .before .before .before .before .before .before .before .euclid .ensures)
+    (omega (arith, c .before .before .before .before .before .before .before .before .before .before .before .before .before .before .before .euclid .kept .1 .1 .1 .0)) (omega (arith, c .before .before .before .before .before .before .before .before .before .before .before .before .before .before .before .euclid .kept .1 .1 .1 .1 .0))
+
+verdict-requires : tie.Need-verdict-requires
+verdict-requires c κs = testable (c .before .before .before .before .before .before .before .before .before .before .before .before .before .before .before .before .before .before .before .before .before .before .before .before .before .before .before .before .before .before .before .before .before .before .before .before .before .before .before .before .before .before .before .before .before .before .before .before .before .before .before .before .before .before .before .before .before .before .before .before .before .before .before .pre) (c .before .before .before .before .before .before .before .before .before .before .before .before .change-marked .ensures)
+    (omega (arith, c .before .before .before .before .before .before .before .before .before .before .before .before .change-marked .kept .1 .1 .1 .1 .1 .1 .1 .1 .1 .1 .1 .1 .1 .1 .0)) (omega (arith, c .before .before .before .before .before .before .before .before .before .before .before .before .before .before .before .before .before .before .before .before .before .before .before .before .before .before .before .before .before .before .before .before .before .before .before .before .before .before .before .before .before .before .before .before .before .values .kept .1 .1 .1 .1 .1 .1 .0))
+
 same-length-4 : tie.Need-same-length-4
-same-length-4 c = omega (arith, c .before .before .before .before .before .before .before .before .before .before .before .before .before .before .before .before .before .before .before .before .before .before .before .before .before .before .before .before .before .before .before .before .before .before .before .before .before .before .before .before .syndromes .kept .1 .1 .1 .0, c .before .before .before .before .before .before .before .before .before .before .before .before .before .before .before .before .before .before .before .before .before .before .before .before .before .before .before .before .before .before .before .euclid .kept .1 .1 .0)
+same-length-4 c = omega (arith, c .before .before .before .before .before .before .before .before .before .before .before .before .before .before .before .before .before .before .before .before .before .before .before .before .before .before .before .before .before .before .before .before .before .before .before .before .before .before .before .before .before .before .before .before .before .before .before .before .values .kept .1 .1 .1 .1 .1 .1 .0, c .before .before .verdict .kept .1 .1 .1 .1 .1 .1 .1 .0)
 
 same-length-5 : tie.Need-same-length-5
-same-length-5 c = search needs
+same-length-5 c = omega (arith, c .before .before .before .before .before .before .before .before .before .before .before .before .before .before .before .before .before .before .before .before .before .before .before .before .before .before .before .before .before .before .before .before .before .before .before .before .before .before .before .before .before .before .before .before .before .before .before .before .values .kept .1 .1 .1 .1 .1 .1 .1 .0)
 
 same-length-6 : tie.Need-same-length-6
 same-length-6 c = search needs
 
 same-length-7 : tie.Need-same-length-7
-same-length-7 c = search needs
+same-length-7 c = omega (arith, c .before .before .before .before .before .before .before .before .before .before .before .before .before .before .before .before .before .before .before .before .before .before .before .before .before .before .before .before .before .before .before .before .before .before .before .before .before .before .before .before .syndromes .kept .1 .1 .1 .0, c .before .before .before .before .before .before .before .before .before .before .before .before .before .before .before .before .before .before .before .before .before .before .before .before .before .before .before .before .before .before .before .euclid .kept .1 .1 .0)
 
 same-length-8 : tie.Need-same-length-8
 same-length-8 c = search needs
@@ -75,9 +76,18 @@ same-length-10 c = search needs
 same-length-11 : tie.Need-same-length-11
 same-length-11 c = search needs
 
-returns : tie.Need-returns
-returns c = let p = c .before .before .before .before .before .before .before .before .before .before .before .before .before .before .before .before .before .before .before .before .before .before .before .before .before .before .before .before .before .before .before .before .before .before .before .before .before .before .before .before .before .before .before .before .before .before .before .before .before .before .before .before .before .before .before .before .before .before .before .before .before .before .before .before .before .pre in
-    corrected (p .given) (c .before .before .before .before .before .before .before .before .before .before .before .before .before .before .before .before .before .before .before .before .before .before .before .before .before .before .before .before .before .before .before .before .before .before .before .before .before .before .before .before .before .before .before .before .before .before .before .values .ensures) (c .before .before .before .before .before .before .before .before .before .before .before .before .before .before .before .before .before .before .before .before .before .before .before .before .before .before .before .before .before .before .before .before .before .before .before .before .before .before .before .before .syndromes .ensures) (p .room .b-zero) (c .before .before .before .before .before .before .before .before .before .before .before .before .before .before .before .before .before .before .before .before .before .before .before .before .before .before .before .before .before .before .before .before .before .before .before .before .before .degree .ensures) refl
+same-length-12 : tie.Need-same-length-12
+same-length-12 c = search needs
+
+same-length-13 : tie.Need-same-length-13
+same-length-13 c = search needs
+
+same-length-14 : tie.Need-same-length-14
+same-length-14 c = search needs
+
+returns-2 : tie.Need-returns-2
+returns-2 c = let p = c .before .before .before .before .before .before .before .before .before .before .before .before .before .before .before .before .before .before .before .before .before .before .before .before .before .before .before .before .before .before .before .before .before .before .before .before .before .before .before .before .before .before .before .before .before .before .before .before .before .before .before .before .before .before .before .before .before .before .before .before .before .before .before .before .before .before .pre in
+    corrected (p .given) (c .before .before .before .before .before .before .before .before .before .before .before .before .before .before .before .before .before .before .before .before .before .before .before .before .before .before .before .before .before .before .before .before .before .before .before .before .before .before .before .before .before .before .before .before .before .before .before .before .values .ensures .0) (c .before .before .before .before .before .before .before .before .before .before .before .before .before .before .before .before .before .before .before .before .before .before .before .before .before .before .before .before .before .before .before .before .before .before .before .before .before .before .before .before .syndromes .ensures) (p .room .b-zero) (c .before .before .before .before .before .before .before .before .before .before .before .before .before .before .before .before .before .before .before .before .before .before .before .before .before .before .before .before .before .before .before .before .before .before .before .before .before .degree .ensures) refl
     (c .before .before .before .before .before .before .before .before .before .before .before .before .before .before .before .before .before .before .before .before .before .before .before .before .before .before .before .before .before .before .before .euclid .ensures) (c .before .before .before .before .before .before .before .before .before .before .before .before .before .before .before .change-marked .ensures) (c .before .before .verdict .ensures)
 
 pub correct-spec : {M : Type 1} → statement M
@@ -85,6 +95,10 @@ correct-spec =
     tie.close
     (tie.spec
     values-requires
+    same-length
+    same-length-2
+    same-length-3
+    returns
     syndromes-requires
     degree-requires
     mul-euclid
@@ -92,9 +106,6 @@ correct-spec =
     euclid-requires
     change-marked-requires
     verdict-requires
-    same-length
-    same-length-2
-    same-length-3
     same-length-4
     same-length-5
     same-length-6
@@ -103,4 +114,7 @@ correct-spec =
     same-length-9
     same-length-10
     same-length-11
-    returns)
+    same-length-12
+    same-length-13
+    same-length-14
+    returns-2)

@@ -1,33 +1,59 @@
-/* A message encoded, the word hit in two places and decoded, and what is refused. examples/c/run builds and runs it. */
+/* A message over a wire that spoils two places. examples/c/run builds and runs it. */
 #include "dunefork.h"
 #include <stdio.h>
+#include <string.h>
 
-/* Sheet B of document 01: n = 15, representatives 1 and 3, one certificate: k = 7, any two codewords differ in 5 places, t = 2. */
-static const uint8_t sheet[] = {0x14, 0x00, 15, 2, 0x0a, 0x00, 1, 0, 0x0c, 0x00, 1, 3, 1, 1, 0x03, 0x00, 0x01, 0x00, 0x04, 0x00};
+/* sheets/bch-15-7.hex: 15 places, 7 of them for the message; any 2 wrong places are corrected. */
+#define N 15
+#define K 7
+static const uint8_t sheet[] = {0x14, 0x00, 0x0f, 0x02, 0x0a, 0x00, 0x01, 0x00, 0x0c, 0x00,
+                                0x01, 0x03, 0x01, 0x01, 0x03, 0x00, 0x01, 0x00, 0x04, 0x00};
+
+/* Place i has weight 2^(i mod 8) in byte i div 8. Here place 0 is shown first. */
+static void show(const char *name, const uint8_t *bytes, int places) {
+    printf("%-9s %*s", name, N - places, "");
+    for (int i = 0; i < places; i++) putchar('0' + (bytes[i / 8] >> i % 8 & 1));
+    putchar('\n');
+}
+
+static void hit(uint8_t *word, int place) {
+    word[place / 8] ^= (uint8_t)(1 << place % 8);
+}
 
 int main(void) {
-    uint8_t message[DUNEFORK_BYTES(7)] = {0x55};
-    uint8_t word[DUNEFORK_BYTES(15)], right[DUNEFORK_BYTES(15)] = {0}, back[DUNEFORK_BYTES(7)] = {0};
-    int32_t r = dunefork_encode(sheet, sizeof sheet, message, sizeof message, word, sizeof word);
-    printf("encode %d: message %02x, word %02x %02x\n", (int)r, message[0], word[0], word[1]);
-    r = dunefork_read(sheet, sizeof sheet, word, sizeof word, back, sizeof back);
-    printf("read %d: message %02x\n", (int)r, back[0]);
-    word[0] ^= 1;
-    r = dunefork_read(sheet, sizeof sheet, word, sizeof word, back, sizeof back);
-    printf("read %d: one place wrong, message still %02x\n", (int)r, back[0]);
-    word[1] ^= 16;
-    r = dunefork_decode(sheet, sizeof sheet, word, sizeof word, right, sizeof right);
-    printf("decode %d: two places wrong in %02x %02x, word %02x %02x\n", (int)r, word[0], word[1], right[0], right[1]);
-    word[0] ^= 4;
-    r = dunefork_decode(sheet, sizeof sheet, word, sizeof word, right, sizeof right);
-    printf("decode %d: three places wrong in %02x %02x, word still %02x %02x\n", (int)r, word[0], word[1], right[0], right[1]);
-    r = dunefork_encode(sheet, 9, message, sizeof message, word, sizeof word);
-    printf("encode %d: nine bytes are no sheet\n", (int)r);
-    r = dunefork_encode(sheet, sizeof sheet, NULL, 0, word, sizeof word);
-    printf("encode %d: no message\n", (int)r);
-    r = dunefork_read(NULL, 0, word, sizeof word, back, sizeof back);
-    printf("read %d: no sheet\n", (int)r);
-    r = dunefork_read(sheet, sizeof sheet, word, sizeof word, NULL, 0);
-    printf("read %d: no buffer\n", (int)r);
+    const uint8_t message[DUNEFORK_BYTES(K)] = {0x55};
+    uint8_t sent[DUNEFORK_BYTES(N)], received[DUNEFORK_BYTES(N)], decoded[DUNEFORK_BYTES(N)], back[DUNEFORK_BYTES(K)];
+
+    /* 0: encoded. A negative number would be a refusal, such as DUNEFORK_BUFFER_LENGTH. */
+    if (dunefork_encode(sheet, sizeof sheet, message, sizeof message, sent, sizeof sent) < 0) return 1;
+    show("message", message, K);
+    show("sent", sent, N);
+
+    memcpy(received, sent, sizeof sent);
+    hit(received, 0);
+    hit(received, 12);
+    show("received", received, N);
+
+    /* 0 or more: a codeword is near, and so many places differ from it. */
+    int32_t changed = dunefork_decode(sheet, sizeof sheet, received, sizeof received, decoded, sizeof decoded);
+    if (changed < 0) return 1;
+    show("decoded", decoded, N);
+    printf("%d places changed\n", (int)changed);
+
+    if (dunefork_read(sheet, sizeof sheet, decoded, sizeof decoded, back, sizeof back) < 0) return 1;
+    show("message", back, K);
+
+    /* Three wrong places are one more than this code corrects: where no codeword is near, decoding refuses .. */
+    hit(received, 2);
+    changed = dunefork_decode(sheet, sizeof sheet, received, sizeof received, decoded, sizeof decoded);
+    printf("\nthree places wrong: %d%s\n", (int)changed, changed == DUNEFORK_NONE_NEAR ? ", no codeword is near" : "");
+
+    /* .. and where they lead near another codeword, that one is the answer: nothing in the received word tells them apart. */
+    memcpy(received, sent, sizeof sent);
+    hit(received, 0);
+    hit(received, 4);
+    hit(received, 6);
+    changed = dunefork_decode(sheet, sizeof sheet, received, sizeof received, decoded, sizeof decoded);
+    printf("three others wrong: %d%s\n", (int)changed, memcmp(decoded, sent, sizeof sent) ? ", another codeword is near" : "");
     return 0;
 }

@@ -1,0 +1,79 @@
+/* Each refusal drawn once, by sheet H of document 01 with something changed, and its meaning in words. examples/c/run builds and
+ * runs it. */
+#include "dunefork.h"
+#include <stdio.h>
+#include <string.h>
+
+/* What a call's answer means. */
+static const char *meaning(int32_t answer) {
+    switch (answer) {
+    case DUNEFORK_SHEET_LENGTH: return "the sheet is under 10 or over 74 bytes, or states another length";
+    case DUNEFORK_CODE_LENGTH: return "n is even, below 3 or above 127";
+    case DUNEFORK_FIELD_DEGREE: return "n divides no 2^s - 1 with s up to 12";
+    case DUNEFORK_HEADER: return "R, C, an offset, byte 7 or the length formula is wrong";
+    case DUNEFORK_REPRESENTATIVE: return "a representative is not below n, not the smallest of its coset, or not rising";
+    case DUNEFORK_NO_MESSAGE: return "no place is left for a message";
+    case DUNEFORK_RANGE: return "a field of a certificate is out of range";
+    case DUNEFORK_COMMON_FACTOR: return "h and f of a certificate have a common factor";
+    case DUNEFORK_PERIOD: return "the period of a certificate's f is not coprime to n";
+    case DUNEFORK_TERM: return "a certificate counts on a zero that the code does not have";
+    case DUNEFORK_BUFFER_LENGTH: return "the input or the buffer has not its exact length";
+    case DUNEFORK_SPARE_BIT: return "a spare bit of the input is 1";
+    case DUNEFORK_NONE_NEAR: return "no codeword within t places";
+    case DUNEFORK_NO_CODEWORD: return "the word is no codeword";
+    default: return "done";
+    }
+}
+
+/* n = 7, representative 1, and the certificate b = 1, z = 1, f = 3, h = 1, L = 2: k = 4, t = 1. */
+static const uint8_t sheet_h[] = {0x13, 0x00, 7, 1, 0x0a, 0x00, 1, 0, 0x0b, 0x00, 1, 1, 1, 0x03, 0x00, 0x01, 0x00, 0x02, 0x00};
+/* The same with representatives 0, 1, 3: every place is a check. */
+static const uint8_t no_message[] = {0x15, 0, 7, 3, 10, 0, 1, 0, 13, 0, 0, 1, 3, 1, 1, 3, 0, 1, 0, 2, 0};
+/* Sheet E: representatives 0 and 1, t = 1, and words two places away from every codeword. */
+static const uint8_t sheet_e[] = {0x14, 0, 7, 2, 10, 0, 1, 0, 12, 0, 0, 1, 0, 1, 3, 0, 1, 0, 3, 0};
+
+/* One line; a refusal leaves the buffer, which held ee, as it was. */
+static void tell(const char *what, int32_t answer, const uint8_t *out) {
+    printf("%3d  %s: %s%s\n", (int)answer, what, meaning(answer), *out == 0xee ? "" : " (and out has changed)");
+}
+
+/* Decoding of the word 0 by sheet H with one byte changed. */
+static void changed(const char *what, size_t place, uint8_t value) {
+    uint8_t sheet[sizeof sheet_h], word[1] = {0}, out[1] = {0xee};
+    memcpy(sheet, sheet_h, sizeof sheet);
+    sheet[place] = value;
+    int32_t answer = dunefork_decode(sheet, sizeof sheet, word, 1, out, 1);
+    tell(what, answer, out);
+}
+
+int main(void) {
+    const uint8_t zero[1] = {0}, one[1] = {1}, three[1] = {3}, spare[1] = {0x80};
+    uint8_t out[1] = {0xee};
+
+    changed("length 20 for 19 bytes", 0, 20);
+    changed("n = 129", 2, 129);
+    changed("n = 19", 2, 19);
+    changed("byte 7 is 1", 7, 1);
+    changed("representative 2", 10, 2);
+    tell("representatives 0 1 3", dunefork_decode(no_message, sizeof no_message, zero, 1, out, 1), out);
+    changed("L = 0", 17, 0);
+    uint8_t common[sizeof sheet_h], period[sizeof sheet_h];
+    memcpy(common, sheet_h, sizeof common);
+    common[13] = 5;
+    common[15] = 3;
+    tell("f = 5, h = 3", dunefork_decode(common, sizeof common, zero, 1, out, 1), out);
+    memcpy(period, sheet_h, sizeof period);
+    period[2] = 21;
+    period[13] = 7;
+    tell("n = 21, f = 7", dunefork_decode(period, sizeof period, zero, 1, out, 1), out);
+    changed("L = 3", 17, 3);
+    tell("empty word", dunefork_decode(sheet_h, sizeof sheet_h, NULL, 0, out, 1), out);
+    tell("word 80", dunefork_decode(sheet_h, sizeof sheet_h, spare, 1, out, 1), out);
+    tell("sheet E, word 03", dunefork_decode(sheet_e, sizeof sheet_e, three, 1, out, 1), out);
+    tell("read word 01", dunefork_read(sheet_h, sizeof sheet_h, one, 1, out, 1), out);
+
+    /* Pointers may be null where the length is 0. */
+    tell("no sheet", dunefork_encode(NULL, 0, zero, 1, out, 1), out);
+    tell("no buffer", dunefork_encode(sheet_h, sizeof sheet_h, zero, 1, NULL, 0), out);
+    return 0;
+}

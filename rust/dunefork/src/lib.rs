@@ -1,0 +1,248 @@
+//! Binary cyclic codes for a noisy wire, each code given by a *code sheet*: a few bytes that name the code and carry a
+//! certificate of its distance. This crate hands calls on to the proved static library `libdunefork.a`; it adds lengths,
+//! pointers and an error type, and no arithmetic.
+//!
+//! ```
+//! // Sheet B of document 01: n = 15 places, k = 7 message places, any t = 2 wrong places are corrected.
+//! const SHEET: [u8; 20] = [20, 0, 15, 2, 10, 0, 1, 0, 12, 0, 1, 3, 1, 1, 3, 0, 1, 0, 4, 0];
+//!
+//! let mut word = [0; dunefork::bytes(15)];
+//! dunefork::encode(&SHEET, &[0x55], &mut word)?;
+//! assert_eq!(word, [0xe5, 0x55]);
+//!
+//! word[0] ^= 0x01; // the wire spoils two places
+//! word[1] ^= 0x10;
+//! let mut right = [0; dunefork::bytes(15)];
+//! assert_eq!(dunefork::decode(&SHEET, &word, &mut right)?, 2);
+//! assert_eq!(right, [0xe5, 0x55]);
+//!
+//! let mut message = [0; dunefork::bytes(7)];
+//! dunefork::read(&SHEET, &right, &mut message)?;
+//! assert_eq!(message, [0x55]);
+//! # Ok::<(), dunefork::Error>(())
+//! ```
+//!
+//! Place i of a word or message has weight 2^(i mod 8) in byte i div 8. The spare bits of the last byte must be 0 in what is
+//! handed over, and are 0 in what comes back. n is byte 2 of the sheet; the program `linkcard` tells n, k and t of a sheet, and
+//! docs/SHEETS.md how to write one.
+//!
+//! Every call judges the sheet anew. Nothing is kept between calls: no heap, no global state, no lock. A call that fails leaves
+//! the output buffer as it was, every byte of it. docs/STACK.md tells how much stack a call takes.
+//!
+//! Building: cargo links `libdunefork.a` from the folder that DUNEFORK_LIB_DIR names; where it is not set, build.rs proves and
+//! builds the library in the repository that this crate stands in, by `rt staticlib dunefork`.
+//!
+//! What is proved is the library: for every sheet, input and buffer of any length it answers and writes exactly what its
+//! definitions say. This crate, the compilers' back ends and the linking are not proved.
+#![cfg_attr(not(feature = "std"), no_std)]
+#![warn(missing_docs)]
+
+use core::fmt;
+
+/// The longest sheet, in bytes.
+pub const SHEET_MAX: usize = 74;
+
+/// The longest word, and the longest message, in bytes: those of 127 places.
+pub const WORD_MAX: usize = bytes(127);
+
+/// The bytes that a word or message of so many places takes.
+///
+/// ```
+/// let word = [0; dunefork::bytes(31)];
+/// assert_eq!(word.len(), 4);
+/// ```
+pub const fn bytes(places: usize) -> usize {
+    places / 8 + (places % 8 != 0) as usize
+}
+
+/// Why a call was refused. The numbers are those of document 01; the conditions are tried in their order, those of certificates
+/// (7 to 10) for one certificate after the other. Later versions may have more.
+#[derive(Clone, Copy, Debug, PartialEq, Eq, PartialOrd, Ord, Hash)]
+#[repr(u8)]
+#[non_exhaustive]
+pub enum Error {
+    /// The sheet is under 10 or over 74 bytes, or its bytes 0-1 state another length.
+    SheetLength = 1,
+    /// n is even, below 3 or above 127.
+    CodeLength = 2,
+    /// n divides no 2^s - 1 with s up to 12.
+    FieldDegree = 3,
+    /// A count, an offset, byte 7 or the length formula of the sheet is wrong.
+    Header = 4,
+    /// A representative is not below n, not the smallest of its coset, or not above the one before.
+    Representative = 5,
+    /// The code has no message places: k is 0.
+    NoMessage = 6,
+    /// A field of a certificate is out of range.
+    Range = 7,
+    /// The masks h and f of a certificate have a common factor.
+    CommonFactor = 8,
+    /// The period of a certificate's f is not coprime to n.
+    Period = 9,
+    /// A certificate counts on a zero that the code does not have.
+    Term = 10,
+    /// The input or the output buffer has not its exact length.
+    BufferLength = 11,
+    /// A spare bit of the input is 1.
+    SpareBit = 12,
+    /// Decoding: no codeword lies within t places of the word.
+    NoneNear = 13,
+    /// Reading out: the word is no codeword.
+    NoCodeword = 14,
+}
+
+impl Error {
+    /// The number in document 01's table, 1 to 14.
+    ///
+    /// ```
+    /// let error = dunefork::encode(&[], &[], &mut []).unwrap_err();
+    /// assert_eq!(error.number(), 1);
+    /// ```
+    pub const fn number(self) -> u8 {
+        self as u8
+    }
+
+    /// The error of a number in document 01's table.
+    pub const fn from_number(number: u8) -> Option<Error> {
+        Some(match number {
+            1 => Error::SheetLength,
+            2 => Error::CodeLength,
+            3 => Error::FieldDegree,
+            4 => Error::Header,
+            5 => Error::Representative,
+            6 => Error::NoMessage,
+            7 => Error::Range,
+            8 => Error::CommonFactor,
+            9 => Error::Period,
+            10 => Error::Term,
+            11 => Error::BufferLength,
+            12 => Error::SpareBit,
+            13 => Error::NoneNear,
+            14 => Error::NoCodeword,
+            _ => return None,
+        })
+    }
+}
+
+impl fmt::Display for Error {
+    fn fmt(&self, f: &mut fmt::Formatter<'_>) -> fmt::Result {
+        let meaning = match self {
+            Error::SheetLength => "the sheet is shorter than 10 or longer than 74 bytes, or its bytes 0-1 state another length",
+            Error::CodeLength => "the sheet's n (byte 2) is even, below 3 or above 127",
+            Error::FieldDegree => "the sheet's n (byte 2) divides no 2^s - 1 with s up to 12",
+            Error::Header => "the sheet's header is wrong: R, C, an offset, byte 7, or the length 10 + R + 8 C",
+            Error::Representative => {
+                "a representative of the sheet is not below n, not the smallest of its coset, or not above the one before"
+            }
+            Error::NoMessage => "the sheet's cosets take all n places, so that no place is left for a message",
+            Error::Range => "a field of a certificate is out of range",
+            Error::CommonFactor => "the masks h and f of a certificate have a common factor",
+            Error::Period => "the period of a certificate's f has a factor in common with n",
+            Error::Term => "a certificate counts on a zero that the code does not have",
+            Error::BufferLength => "the input or the output buffer has not its exact length",
+            Error::SpareBit => "a spare bit of the input's last byte is 1",
+            Error::NoneNear => "no codeword lies within t places of the word",
+            Error::NoCodeword => "the word is no codeword",
+        };
+        write!(f, "refusal {}: {}", self.number(), meaning)
+    }
+}
+
+#[cfg(feature = "std")]
+impl std::error::Error for Error {}
+
+mod c {
+    //! include/dunefork.h.
+    type Entry = unsafe extern "C" fn(*const u8, usize, *const u8, usize, *mut u8, usize) -> i32;
+
+    extern "C" {
+        fn dunefork_encode(s: *const u8, s_len: usize, i: *const u8, i_len: usize, o: *mut u8, o_len: usize) -> i32;
+        fn dunefork_read(s: *const u8, s_len: usize, i: *const u8, i_len: usize, o: *mut u8, o_len: usize) -> i32;
+        fn dunefork_decode(s: *const u8, s_len: usize, i: *const u8, i_len: usize, o: *mut u8, o_len: usize) -> i32;
+    }
+
+    pub const ENCODE: Entry = dunefork_encode;
+    pub const READ: Entry = dunefork_read;
+    pub const DECODE: Entry = dunefork_decode;
+
+    /// An entry's answer: what it returns, or the error of its refusal.
+    pub fn call(entry: Entry, sheet: &[u8], input: &[u8], out: &mut [u8]) -> Result<usize, super::Error> {
+        // SAFETY: the entries read the two inputs and write `out` within the lengths that go with them, and keep no pointer.
+        // `out` is borrowed exclusively, so that it overlaps neither input.
+        let code = unsafe { entry(sheet.as_ptr(), sheet.len(), input.as_ptr(), input.len(), out.as_mut_ptr(), out.len()) };
+        match usize::try_from(code) {
+            Ok(answer) => Ok(answer),
+            Err(_) => match u8::try_from(code.unsigned_abs()).ok().and_then(super::Error::from_number) {
+                Some(error) => Err(error),
+                None => panic!("libdunefork.a is of another version: it answered {code}"),
+            },
+        }
+    }
+}
+
+/// Encodes a message: its k places stand in the places n - k and up of the codeword, the places below hold the checks.
+///
+/// `message` has exactly `bytes(k)` bytes and `out` exactly `bytes(n)`.
+///
+/// ```
+/// // Sheet H of document 01: n = 7, k = 4, t = 1.
+/// const SHEET: [u8; 19] = [19, 0, 7, 1, 10, 0, 1, 0, 11, 0, 1, 1, 1, 3, 0, 1, 0, 2, 0];
+///
+/// let mut word = [0];
+/// dunefork::encode(&SHEET, &[2], &mut word)?;
+/// assert_eq!(word, [22]);
+/// assert_eq!(dunefork::encode(&SHEET, &[16], &mut word), Err(dunefork::Error::SpareBit));
+/// # Ok::<(), dunefork::Error>(())
+/// ```
+///
+/// # Errors
+///
+/// Refusals 1 to 12; `out` is then as it was.
+pub fn encode(sheet: &[u8], message: &[u8], out: &mut [u8]) -> Result<(), Error> {
+    c::call(c::ENCODE, sheet, message, out).map(|_| ())
+}
+
+/// Reads the message out of a codeword.
+///
+/// `word` has exactly `bytes(n)` bytes and `out` exactly `bytes(k)`.
+///
+/// ```
+/// const SHEET: [u8; 19] = [19, 0, 7, 1, 10, 0, 1, 0, 11, 0, 1, 1, 1, 3, 0, 1, 0, 2, 0];
+///
+/// let mut message = [0];
+/// dunefork::read(&SHEET, &[22], &mut message)?;
+/// assert_eq!(message, [2]);
+/// assert_eq!(dunefork::read(&SHEET, &[23], &mut message), Err(dunefork::Error::NoCodeword));
+/// # Ok::<(), dunefork::Error>(())
+/// ```
+///
+/// # Errors
+///
+/// Refusals 1 to 12, and [`Error::NoCodeword`] exactly where the word is no codeword; `out` is then as it was.
+pub fn read(sheet: &[u8], word: &[u8], out: &mut [u8]) -> Result<(), Error> {
+    c::call(c::READ, sheet, word, out).map(|_| ())
+}
+
+/// Corrects a received word: the codeword that differs from it in at most t places goes into `out`, and the number of places in
+/// which the two differ comes back, 0 to t. There is never more than one such codeword.
+///
+/// `word` and `out` have exactly `bytes(n)` bytes each.
+///
+/// If more than t places are wrong, the answer is [`Error::NoneNear`], or another codeword that is within t places of the word:
+/// no decoder can tell that one from the one that was sent.
+///
+/// ```
+/// const SHEET: [u8; 19] = [19, 0, 7, 1, 10, 0, 1, 0, 11, 0, 1, 1, 1, 3, 0, 1, 0, 2, 0];
+///
+/// let mut word = [0];
+/// assert_eq!(dunefork::decode(&SHEET, &[10], &mut word)?, 1);
+/// assert_eq!(word, [11]);
+/// # Ok::<(), dunefork::Error>(())
+/// ```
+///
+/// # Errors
+///
+/// Refusals 1 to 12, and [`Error::NoneNear`] exactly where no codeword is within t places; `out` is then as it was.
+pub fn decode(sheet: &[u8], word: &[u8], out: &mut [u8]) -> Result<usize, Error> {
+    c::call(c::DECODE, sheet, word, out)
+}

@@ -1,0 +1,89 @@
+//! Every sheet of the repository's folder sheets/: messages come back after 0 to t wrong places, as its file states t.
+use dunefork::{bytes, decode, encode, read, Error};
+use std::path::Path;
+
+struct Sheet {
+    name: String,
+    bytes: Vec<u8>,
+    n: usize,
+    k: usize,
+    t: usize,
+}
+
+fn parsed(name: String, text: &str) -> Sheet {
+    let stated = text.lines().find(|line| line.starts_with("# n ")).expect("a line '# n .., k .., d .., t ..'");
+    let numbers: Vec<usize> = stated.split([' ', ',']).filter_map(|part| part.parse().ok()).collect();
+    let digits = text.lines().filter(|line| !line.starts_with('#')).flat_map(str::split_whitespace);
+    let bytes = digits.map(|byte| u8::from_str_radix(byte, 16).unwrap()).collect();
+    Sheet { name, bytes, n: numbers[0], k: numbers[1], t: numbers[3] }
+}
+
+fn sheets() -> Vec<Sheet> {
+    let folder = Path::new(env!("CARGO_MANIFEST_DIR")).join("../../sheets");
+    let mut sheets: Vec<Sheet> = std::fs::read_dir(folder)
+        .unwrap()
+        .map(|entry| entry.unwrap().path())
+        .filter(|path| path.extension() == Some("hex".as_ref()))
+        .map(|path| parsed(path.file_name().unwrap().to_string_lossy().into(), &std::fs::read_to_string(path).unwrap()))
+        .collect();
+    sheets.sort_by(|a, b| a.name.cmp(&b.name));
+    sheets
+}
+
+/// A fixed sequence, so that a failure can be run again.
+struct Draw(u64);
+
+impl Draw {
+    fn below(&mut self, bound: usize) -> usize {
+        self.0 = self.0.wrapping_mul(6364136223846793005).wrapping_add(1442695040888963407);
+        (self.0 >> 33) as usize % bound
+    }
+}
+
+#[test]
+fn round_trips() {
+    let sheets = sheets();
+    assert!(sheets.len() >= 12);
+    for sheet in sheets {
+        let mut draw = Draw(1);
+        for round in 0..20 {
+            let mut message = vec![0; bytes(sheet.k)];
+            for place in 0..sheet.k {
+                message[place / 8] |= (draw.below(2) as u8) << (place % 8);
+            }
+            let mut word = vec![0; bytes(sheet.n)];
+            encode(&sheet.bytes, &message, &mut word).unwrap_or_else(|error| panic!("{}: {error}", sheet.name));
+            let errors = round % (sheet.t + 1);
+            let mut received = word.clone();
+            let mut places: Vec<usize> = (0..sheet.n).collect();
+            for _ in 0..errors {
+                let place = places.swap_remove(draw.below(places.len()));
+                received[place / 8] ^= 1 << (place % 8);
+            }
+            let mut right = vec![0; bytes(sheet.n)];
+            assert_eq!(decode(&sheet.bytes, &received, &mut right), Ok(errors), "{}", sheet.name);
+            assert_eq!(right, word, "{}", sheet.name);
+            let mut back = vec![0; bytes(sheet.k)];
+            assert_eq!(read(&sheet.bytes, &right, &mut back), Ok(()), "{}", sheet.name);
+            assert_eq!(back, message, "{}", sheet.name);
+            if errors > 0 {
+                assert_eq!(read(&sheet.bytes, &received, &mut back), Err(Error::NoCodeword), "{}", sheet.name);
+            }
+        }
+    }
+}
+
+#[test]
+fn words_off_the_air() {
+    // POCSAG's synchronization and idle words, highest place first, without their last bit, which is parity
+    let sheet = parsed("bch-31-21".into(), include_str!("../../../sheets/bch-31-21.hex"));
+    for sent in [0x7cd2_15d8_u32, 0x7a89_c197] {
+        let word = (sent >> 1).to_le_bytes();
+        let mut message = [0; 3];
+        assert_eq!(read(&sheet.bytes, &word, &mut message), Ok(()));
+        assert_eq!(message, (sent >> 11).to_le_bytes()[..3]);
+        let mut right = [0; 4];
+        assert_eq!(decode(&sheet.bytes, &(sent >> 1 ^ 0x4000_0100).to_le_bytes(), &mut right), Ok(2));
+        assert_eq!(right, word);
+    }
+}

@@ -1,0 +1,288 @@
+/* How long calls of the library take, and how long peers take on the same words. tools/bench builds and runs it: `bench ROUNDS`.
+ *
+ * Each line of standard input is a code: `HEX K T WORDS WEIGHT ..`, that is the sheet's bytes, k, t, how many words to draw for
+ * each weight, and the weights: numbers of errors, or -1 for words drawn with no codeword in mind. The peers have the words of
+ * the first line. Written are `LINE WHO WHAT WEIGHT NANOSECONDS`, the processor's time for one call: the mean over the words of
+ * a weight, the least of the rounds; and counts of words, `LINE ours refused WEIGHT COUNT` and `LINE WHO wrong WEIGHT COUNT`, a
+ * peer's wrong answers. In each round every code, weight and decoder has its turn, so that a slow moment of the machine hits all.
+ *
+ * Every answer is held to the codeword that was sent, after the time was taken. A wrong one ends the run, but for a peer's with
+ * more than t errors: those are counted. */
+#include "bench.h"
+#include "dunefork.h"
+#include <stdio.h>
+#include <stdlib.h>
+#include <string.h>
+#include <time.h>
+
+#define CODES 64
+#define WEIGHTS 16
+#define LEAST_SECONDS 0.0003 /* a batch that takes less is repeated */
+
+/* What was sent, what arrived and what came out. */
+struct word {
+    uint8_t message[DUNEFORK_WORD_MAX], codeword[DUNEFORK_WORD_MAX], received[DUNEFORK_WORD_MAX], out[DUNEFORK_WORD_MAX];
+    int32_t reply;
+};
+
+static const struct peer *const peers[] = {
+#ifdef WITH_LINUX
+    &linux_peer,
+#endif
+#ifdef WITH_ITPP
+    &itpp_peer,
+#endif
+    NULL};
+#define PEERS (sizeof peers / sizeof *peers)
+
+/* A line's code, its words and the least times so far. */
+struct code {
+    uint8_t sheet[DUNEFORK_SHEET_MAX];
+    size_t sheet_len, word_len, message_len, count;
+    int n, k, t, weights, weight[WEIGHTS];
+    struct word *words[WEIGHTS];
+    double judge, encode, read, decode[WEIGHTS], peer_encode[PEERS], peer_decode[PEERS][WEIGHTS];
+    int refused[WEIGHTS], wrong[PEERS][WEIGHTS];
+};
+
+static struct code codes[CODES];
+
+/* Whose turn it is. */
+static struct code *c;
+static struct word *w;
+
+static void fail(const char *who, const char *what, int weight) {
+    fprintf(stderr, "bench: %s: %s (length %d, %d errors)\n", who, what, c ? c->n : 0, weight);
+    exit(1);
+}
+
+/* ---- words */
+
+/* xorshift64* from a fixed start: the words are the same in every run. */
+static uint64_t drawn(void) {
+    static uint64_t x = 1;
+    x ^= x >> 12;
+    x ^= x << 25;
+    x ^= x >> 27;
+    return (x * 2685821657736338717u) >> 33;
+}
+
+static void draw_bits(uint8_t *bytes, int places) {
+    for (int i = 0; i < places; i++)
+        if (drawn() & 1)
+            bench_flip(bytes, (size_t)i);
+}
+
+/* The word is all zeros before. */
+static void draw(struct word *x, int weight) {
+    draw_bits(x->message, c->k);
+    if (dunefork_encode(c->sheet, c->sheet_len, x->message, c->message_len, x->codeword, c->word_len) != 0)
+        fail("ours", "the sheet or a message is refused", weight);
+    if (weight < 0) {
+        draw_bits(x->received, c->n);
+        return;
+    }
+    memcpy(x->received, x->codeword, sizeof x->received);
+    for (int missing = weight; missing > 0;) {
+        size_t place = drawn() % (uint64_t)c->n;
+        if (bench_place(x->received, place) == bench_place(x->codeword, place)) {
+            bench_flip(x->received, place);
+            missing--;
+        }
+    }
+}
+
+static int differing(const uint8_t *a, const uint8_t *b) {
+    int places = 0;
+    for (size_t i = 0; i < c->word_len; i++)
+        places += __builtin_popcount(a[i] ^ b[i]);
+    return places;
+}
+
+/* Up to t errors must be undone. More must be refused, unless they took the word to within t places of another codeword. */
+static int right(const struct word *x, int weight) {
+    uint8_t message[DUNEFORK_WORD_MAX];
+    if (weight >= 0 && weight <= c->t)
+        return x->reply == weight && memcmp(x->out, x->codeword, c->word_len) == 0;
+    if (x->reply == DUNEFORK_NONE_NEAR)
+        return 1;
+    return x->reply >= 0 && x->reply <= c->t && differing(x->received, x->out) == x->reply &&
+           dunefork_read(c->sheet, c->sheet_len, x->out, c->word_len, message, c->message_len) == 0;
+}
+
+/* ---- time */
+
+static double seconds(void) {
+    struct timespec now;
+    clock_gettime(CLOCK_PROCESS_CPUTIME_ID, &now);
+    return (double)now.tv_sec + (double)now.tv_nsec * 1e-9;
+}
+
+/* Calls f for all words, and keeps the time of one call if it is the least. */
+static void keep_least(double *least, void (*f)(size_t slot)) {
+    double start = seconds(), spent;
+    int passes = 0;
+    do {
+        for (size_t i = 0; i < c->count; i++)
+            f(i);
+        passes++;
+        spent = seconds() - start;
+    } while (spent < LEAST_SECONDS);
+    double one = spent / passes / (double)c->count;
+    if (*least == 0 || one < *least)
+        *least = one;
+}
+
+/* ---- ours */
+
+static void our_decode(size_t i) {
+    w[i].reply = dunefork_decode(c->sheet, c->sheet_len, w[i].received, c->word_len, w[i].out, c->word_len);
+}
+
+static void our_encode(size_t i) {
+    w[i].reply = dunefork_encode(c->sheet, c->sheet_len, w[i].message, c->message_len, w[i].out, c->word_len);
+}
+
+static void our_read(size_t i) {
+    w[i].reply = dunefork_read(c->sheet, c->sheet_len, w[i].codeword, c->word_len, w[i].out, c->message_len);
+}
+
+/* An empty word is refused right after the sheet is judged. */
+static void our_judge(size_t i) {
+    w[i].reply = dunefork_decode(c->sheet, c->sheet_len, w[i].received, 0, w[i].out, c->word_len);
+}
+
+static void time_our_decode(int j) {
+    keep_least(&c->decode[j], our_decode);
+    c->refused[j] = 0;
+    for (size_t i = 0; i < c->count; i++) {
+        if (!right(&w[i], c->weight[j]))
+            fail("ours", "a word is decoded wrongly", c->weight[j]);
+        c->refused[j] += w[i].reply == DUNEFORK_NONE_NEAR;
+    }
+}
+
+static void time_our_rest(void) {
+    keep_least(&c->judge, our_judge);
+    for (size_t i = 0; i < c->count; i++)
+        if (w[i].reply != DUNEFORK_BUFFER_LENGTH)
+            fail("ours", "an empty word is not refused", 0);
+    keep_least(&c->encode, our_encode);
+    for (size_t i = 0; i < c->count; i++)
+        if (w[i].reply != 0 || memcmp(w[i].out, w[i].codeword, c->word_len) != 0)
+            fail("ours", "a message is encoded wrongly", 0);
+    keep_least(&c->read, our_read);
+    for (size_t i = 0; i < c->count; i++)
+        if (w[i].reply != 0 || memcmp(w[i].out, w[i].message, c->message_len) != 0)
+            fail("ours", "a message is read wrongly", 0);
+}
+
+/* ---- peers */
+
+/* A peer's answer is held to ours, which was found right just before. */
+static void time_peer_decode(size_t p, int j) {
+    uint8_t out[BENCH_BYTES];
+    int wrong = 0;
+    for (size_t i = 0; i < c->count; i++)
+        peers[p]->take(i, w[i].received);
+    keep_least(&c->peer_decode[p][j], peers[p]->decode);
+    for (size_t i = 0; i < c->count; i++) {
+        int32_t reply = peers[p]->answer(i, out);
+        wrong += reply != w[i].reply || (reply >= 0 && memcmp(out, w[i].out, c->word_len) != 0);
+    }
+    if (wrong && c->weight[j] >= 0 && c->weight[j] <= c->t)
+        fail(peers[p]->name, "a word is decoded wrongly", c->weight[j]);
+    c->wrong[p][j] = wrong;
+}
+
+static void time_peer_encode(size_t p) {
+    uint8_t out[BENCH_BYTES];
+    for (size_t i = 0; i < c->count; i++)
+        peers[p]->take(i, w[i].codeword);
+    keep_least(&c->peer_encode[p], peers[p]->encode);
+    for (size_t i = 0; i < c->count; i++)
+        if (peers[p]->answer(i, out) != 0 || memcmp(out, w[i].codeword, c->word_len) != 0)
+            fail(peers[p]->name, "a message is encoded wrongly", 0);
+}
+
+/* ---- lines */
+
+static void one_round(int with_peers) {
+    for (int j = 0; j < c->weights; j++) {
+        w = c->words[j];
+        time_our_decode(j);
+        for (size_t p = 0; with_peers && peers[p]; p++)
+            time_peer_decode(p, j);
+    }
+    w = c->words[0];
+    time_our_rest();
+    for (size_t p = 0; with_peers && peers[p]; p++)
+        time_peer_encode(p);
+}
+
+static void told(int line, const char *who, const char *what, int weight, double time) {
+    printf("%d %s %s %d %.1f\n", line, who, what, weight, time * 1e9);
+}
+
+static void tell(int line) {
+    told(line, "ours", "judge", 0, c->judge);
+    told(line, "ours", "encode", 0, c->encode);
+    told(line, "ours", "read", 0, c->read);
+    for (int j = 0; j < c->weights; j++) {
+        told(line, "ours", "decode", c->weight[j], c->decode[j]);
+        printf("%d ours refused %d %d\n", line, c->weight[j], c->refused[j]);
+    }
+    for (size_t p = 0; line == 0 && peers[p]; p++) {
+        told(line, peers[p]->name, "encode", 0, c->peer_encode[p]);
+        for (int j = 0; j < c->weights; j++) {
+            told(line, peers[p]->name, "decode", c->weight[j], c->peer_decode[p][j]);
+            printf("%d %s wrong %d %d\n", line, peers[p]->name, c->weight[j], c->wrong[p][j]);
+        }
+    }
+}
+
+/* Whether there was a line; one that is no code ends the run. */
+static int take_line(void) {
+    static char text[1024];
+    int taken = 0, asked = 0;
+    unsigned byte;
+    if (!fgets(text, sizeof text, stdin))
+        return 0;
+    char *at = text;
+    for (; c->sheet_len < sizeof c->sheet && *at != ' ' && sscanf(at, "%2x", &byte) == 1; at += 2)
+        c->sheet[c->sheet_len++] = (uint8_t)byte;
+    if (c->sheet_len < 10 || sscanf(at, "%d %d %d%n", &c->k, &c->t, &asked, &taken) != 3 || asked < 1 || asked > BENCH_WORDS)
+        fail("input", "a line is no code", 0);
+    c->n = c->sheet[2];
+    c->count = (size_t)asked;
+    c->word_len = DUNEFORK_BYTES(c->n);
+    c->message_len = DUNEFORK_BYTES(c->k);
+    for (at += taken; c->weights < WEIGHTS && sscanf(at, "%d%n", &c->weight[c->weights], &taken) == 1; at += taken) {
+        struct word *x = calloc(c->count, sizeof *x);
+        if (!x)
+            fail("input", "no memory", 0);
+        for (size_t i = 0; i < c->count; i++)
+            draw(&x[i], c->weight[c->weights]);
+        c->words[c->weights++] = x;
+    }
+    return 1;
+}
+
+int main(int argc, char **argv) {
+    int lines = 0, rounds = argc > 1 ? atoi(argv[1]) : 1;
+    for (size_t p = 0; peers[p]; p++)
+        if (!peers[p]->open())
+            fail(peers[p]->name, "its code is another", 0);
+    for (c = codes; lines < CODES && take_line(); c++)
+        lines++;
+    for (int round = 0; round < rounds; round++)
+        for (int line = 0; line < lines; line++) {
+            c = &codes[line];
+            one_round(line == 0);
+        }
+    for (int line = 0; line < lines; line++) {
+        c = &codes[line];
+        tell(line);
+    }
+    return 0;
+}

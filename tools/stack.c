@@ -1,0 +1,60 @@
+/* For tools/stack: calls an entry of the library on a painted stack and tells how deep the paint is gone.
+ *
+ *     stack ENTRY SHEET INPUT OUT_LEN
+ *
+ * ENTRY is encode, read or decode, SHEET and INPUT are hexadecimal digits. It writes what the entry returned and the number of
+ * bytes from the stack pointer at the call, the return address included, to the deepest byte that was written. */
+#include "dunefork.h"
+#include <stdio.h>
+#include <stdlib.h>
+#include <string.h>
+
+#define ROOM ((size_t)1 << 20)
+
+typedef int32_t entry(const uint8_t *, size_t, const uint8_t *, size_t, uint8_t *, size_t);
+
+/* The entry called with the stack pointer at `top`. Its six arguments are all in registers. */
+static int32_t call_at(uint8_t *top, entry *f, const uint8_t *sheet, size_t sheet_len, const uint8_t *in, size_t in_len,
+                       uint8_t *out, size_t out_len) {
+    register size_t a4 __asm__("r8") = (size_t)out;
+    register size_t a5 __asm__("r9") = out_len;
+    int64_t result;
+    __asm__ volatile("movq %%rsp, %%rbx\n\t"
+                     "movq %[top], %%rsp\n\t"
+                     "callq *%[f]\n\t"
+                     "movq %%rbx, %%rsp"
+                     : "=a"(result), "+D"(sheet), "+S"(sheet_len), "+d"(in), "+c"(in_len), "+r"(a4), "+r"(a5)
+                     : [top] "r"(top), [f] "r"(f)
+                     : "rbx", "r10", "r11", "cc", "memory", "xmm0", "xmm1", "xmm2", "xmm3", "xmm4", "xmm5", "xmm6", "xmm7",
+                       "xmm8", "xmm9", "xmm10", "xmm11", "xmm12", "xmm13", "xmm14", "xmm15");
+    return (int32_t)result;
+}
+
+static size_t from_hex(const char *text, uint8_t *bytes, size_t most) {
+    size_t len = strlen(text) / 2;
+    for (size_t i = 0; i < len; i++) {
+        unsigned value;
+        if (len > most || sscanf(text + 2 * i, "%2x", &value) != 1) exit(2);
+        bytes[i] = (uint8_t)value;
+    }
+    return len;
+}
+
+int main(int argc, char **argv) {
+    uint8_t sheet[DUNEFORK_SHEET_MAX + 1], in[DUNEFORK_WORD_MAX + 1], out[DUNEFORK_WORD_MAX + 1];
+    if (argc != 5 || (size_t)atoi(argv[4]) > sizeof out) return 2;
+    entry *f = strcmp(argv[1], "encode") == 0 ? dunefork_encode : strcmp(argv[1], "read") == 0 ? dunefork_read : dunefork_decode;
+    size_t sheet_len = from_hex(argv[2], sheet, sizeof sheet), in_len = from_hex(argv[3], in, sizeof in), deepest = 0;
+    uint8_t *room = aligned_alloc(4096, ROOM);
+    int32_t answer = 0;
+    /* twice, since a byte that was written may have the paint's own value */
+    for (int paint = 0x55; paint <= 0xaa; paint += 0x55) {
+        memset(room, paint, ROOM);
+        answer = call_at(room + ROOM, f, sheet, sheet_len, in, in_len, out, (size_t)atoi(argv[4]));
+        size_t low = 0;
+        while (low < ROOM && room[low] == paint) low++;
+        if (ROOM - low > deepest) deepest = ROOM - low;
+    }
+    printf("%d %zu\n", (int)answer, deepest);
+    return 0;
+}

@@ -2,13 +2,13 @@
 --
 --   marked-hit, marked-miss      one place; marked-le: counted at most once
 --   hits-lt, hits-at      the mask of all hits, whose places pass the test
---   Finding, finding-start, finding-more, finding-all, finding-many      the first i places
+--   Finding, finding-start, finding-more, finding-two, finding-all, finding-many, finding-end      the first i places
 use mathlib.Core.Path.{_≡_, refl, sym, ap, _∙_, subst}
 use mathlib.Core.Logic.{_⊎_, inl, inr}
 use mathlib.Core.Bool.{Bool, true, false}
 use mathlib.Core.List.{List}
 use Prim.Native.Nat.{ℕ, zero, suc, _+_, _-_, _^_, _≤_, _<_}
-use native.Mathlib.Decide.{ℕ-discrete}
+use native.Mathlib.Decide.{ℕ-discrete, decLt}
 use native.Mathlib.Omega.{arith}
 use lib.Bits.{bitXor}
 use lib.ListN.{length, getD, set}
@@ -82,6 +82,13 @@ finding-more {test} {i} {c} {r} {hit} {w} {w′} {w″} e m t = record {
     here : getD w″ i 0 ≡ getD w i 0 ⊕ bit (test i)
     here = m .here ∙ ap (λ (x : ℕ). x ⊕ bit hit) (t .rest i (omega arith)) ∙ ap (λ (b : Bool). getD w i 0 ⊕ bit b) e
 
+-- two places at once
+pub finding-two : {test : ℕ → Bool} {i c r r′ : ℕ} {hit hit′ : Bool} {w w₁ w₂ w₃ : List ℕ} → hit ≡ test i → hit′ ≡ test (i + 1)
+    → Marked hit i w₁ w₂ r → Marked hit′ (i + 1) w₂ w₃ r′ → Finding test i c w w₁ → Finding test (i + 2) (c + r + r′) w w₃
+finding-two {test} {i} {c} {r} {r′} {w = w} {w₃ = w₃} e e′ m m′ t =
+    let q : i + 1 + 1 ≡ i + 2 = omega arith in
+    subst (λ (k : ℕ). Finding test k (c + r + r′) w w₃) q (finding-more e′ m′ (finding-more e m t))
+
 pub finding-all : {test : ℕ → Bool} {n t i c : ℕ} {w w′ : List ℕ} → i ≡ n → c ≤ t → Finding test i c w w′
     → Found n t (hits n test) w w′ c
 finding-all {test} {n} {t} {i} {c} {w} {w′} e l f = record {
@@ -118,3 +125,10 @@ finding-many {test} {n} {t} {i} {c} {w} {w′} l h f = record {
       subst (λ (x : ℕ). total i (λ j. bit (test j)) ≤ total x (λ j. bit (test j))) e (total-le _ i (n - i)) in
       omega (arith, f .counted, hits-count n test);
 }
+
+pub finding-end : {test : ℕ → Bool} {n t i c : ℕ} {w w′ : List ℕ} → i ≡ n → Finding test i c w w′ → Found n t (hits n test) w w′ c
+finding-end {t = t} {c = c} e f =
+    elim (decLt t c) [
+      | yes h ↦ finding-many (omega arith) h f
+      | no h ↦ finding-all e (omega arith) f
+    ]

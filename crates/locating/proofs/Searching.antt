@@ -20,9 +20,10 @@ use Rattle.sheet.specs.Stage.{bit}
 use Rattle.syndrome.proofs.Computing.{root-lt}
 use Rattle.poly.specs.Slice.{series}
 use Rattle.tables.specs.Tables.{Powered}
-use Rattle.locating.specs.Terms.{vanishes, Walkable, Walked}
+use Rattle.locating.specs.Terms.{vanishes, Walkable, Walked, vanishesAlone}
 use Rattle.locating.specs.Change.{hits, Found, Search, Changed}
 use Rattle.locating.proofs.Reduction.{divides-substituted}
+use Rattle.locating.proofs.TermSums.{alone-is}
 use Rattle.locating.proofs.Finding.{hits-lt, hits-at}
 
 pub powered : {s : ℕ} {e g : List ℕ} → Tables s e g → Powered s e
@@ -89,3 +90,10 @@ module _ {n s z f u len q : ℕ} {lam e g lg st lo hi w : List ℕ} (p : Search 
     where
       test : ℕ → Bool
       test = vanishes s (getD lam 0 0) c lg′ st′ lo′ hi′
+
+  -- the same for f = 1 + x
+  pub changed-alone : {t c r : ℕ} {lg′ st′ lo′ hi′ w′ : List ℕ} → Walked s ((n - z) * q) f u lam lg′ st′ lo′ hi′ c → u ≡ 1
+      → Found n t (hits n (vanishesAlone s (getD lam 0 0) c lg′ st′)) w w′ r → Changed n s z f t lam w w′ r
+  changed-alone {t} {c} {r} {lg′} {st′} {w′ = w′} v e x =
+      changed v
+      (subst (λ (test : ℕ → Bool). Found n t (hits n test) w w′ r) (alone-is s (getD lam 0 0) lg′ st′ (v .laned) e) x)

@@ -6,7 +6,8 @@
 --   weight-fits       a term in the lanes of a word is below 2^64
 --   Both, both-start, both-more      the first m terms in both words
 --   hit-not, hit-low, hit-one        the test, as the code makes it
-use mathlib.Core.Path.{_≡_, refl, sym, ap, ap₂, _∙_}
+--   alone-is          for f = 1 + x
+use mathlib.Core.Path.{_≡_, refl, sym, ap, ap₂, _∙_, fun-ext}
 use mathlib.Core.Logic.{_≢_}
 use mathlib.Core.Bool.{Bool, false, _&&_}
 use mathlib.Core.List.{List}
@@ -24,7 +25,7 @@ use Rattle.field.specs.Field.{Degree, ω, fieldPower}
 use Rattle.field.proofs.Xor.{⊕-assoc, ⊕-self, ⊕-zero-l, ⊕-zero-r}
 use Rattle.field.proofs.Primitive.{Degree-bounds}
 use Rattle.field.proofs.Numbers.{power-lt}
-use Rattle.locating.specs.Terms.{lanes, termSum, vanishes, Laned}
+use Rattle.locating.specs.Terms.{lanes, termSum, vanishes, vanishesAlone, Laned}
 
 pub sum-z : (s : ℕ) (lg st : List ℕ) (κ : ℕ → ℕ) (i : ℕ) → termSum s lg st κ i 0 ≡ 0
 unfolding termSum
@@ -138,3 +139,9 @@ hit-one s first i {c} {u} lg st {lo} {hi} {r} l e q =
     ∙ sym
     (ap (λ (x : ℕ). eqb x 0 && eqb (first ⊕ termSum s lg st (λ m. getD lo m 0) i c) 0)
     (sum-none s lg st (λ m. getD hi m 0) i c (l .hi-one e)))
+
+-- ---- for f = 1 + x
+pub alone-is : (s first : ℕ) {c u : ℕ} (lg st : List ℕ) {lo hi : List ℕ} → Laned u c lo hi → u ≡ 1
+    → vanishesAlone s first c lg st ≡ vanishes s first c lg st lo hi
+unfolding vanishesAlone
+alone-is s first lg st l e = fun-ext (λ i. hit-one s first i lg st l e refl)

@@ -3,6 +3,7 @@
 --   lanes y                 the lowest four coefficients of the mask y, 16 places apart
 --   termSum s lg st κ i c   the sum of κ m ω^(lg m + i st m) over the terms m below c
 --   vanishes                whether all coefficients of the remainder at place i are 0: a lane of two such sums for each
+--   vanishesAlone           the same for f = 1 + x
 --   Locator                 a locator of at most len coefficients, and room for its terms
 --   Walkable, Walked        the locator's terms: what listing them needs, and leaves
 --   Listed s c lg st        logarithms and steps of c terms
@@ -36,6 +37,10 @@ termSum s lg st κ i zero = 0
 termSum s lg st κ i (suc m) = termSum s lg st κ i m ⊕ κ m * fieldPower s ω (getD lg m 0 + i * getD st m 0)
 
 -- the constant term of the locator is `first`
+-- for f = 1 + x the remainder is one coefficient
+unfoldable pub vanishesAlone : (s first c : ℕ) (lg st : List ℕ) → ℕ → Bool
+vanishesAlone s first c lg st i = eqb (first ⊕ termSum s lg st (λ m. 1) i c) 0
+
 unfoldable pub vanishes : (s first c : ℕ) → (lg st lo hi : List ℕ) → ℕ → Bool
 vanishes s first c lg st lo hi i =
     eqb (termSum s lg st (λ m. getD hi m 0) i c) 0 && eqb (first ⊕ termSum s lg st (λ m. getD lo m 0) i c) 0

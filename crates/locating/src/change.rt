@@ -1,9 +1,13 @@
 // The places, searched and changed.
-ghost use Prim.Native.Nat.{_-_, _^_, _<_, _≤_};
+ghost use mathlib.Core.Path.{_≡_};
+ghost use Prim.Native.Nat.{_-_, _%_, _^_, _<_, _≤_};
 ghost use lib.ListN.{length};
-ghost use Rattle.locating.specs.Terms.{vanishes as vanishesOf, Searchable};
+ghost use Rattle.tables.specs.Tables.{Powered};
+ghost use Rattle.locating.specs.Terms.{vanishes as vanishesOf, vanishesAlone, Listed, Searchable};
 ghost use Rattle.locating.specs.Change.{Marked, hits, Found, Search, Changed};
-use crate::place::vanishes;
+use crate::pair::pair;
+use crate::place::lanes_vanish;
+use crate::place::value_vanishes;
 use crate::walk::walk;
 use field::arithmetic::order;
 
@@ -42,7 +46,7 @@ fn search(
     let mut c: usize = 0;
     let mut i: usize = 0;
     while i < n {
-        let hit = vanishes(first, lg, st, lo, hi, count, u, i, s, e);
+        let hit = lanes_vanish(first, lg, st, lo, hi, count, u, i, s, e);
         c = c + mark(hit, w, i);
         if t < c {
             return c;
@@ -50,6 +54,36 @@ fn search(
         i = i + 1;
     }
     c
+}
+
+// For f = 1 + x, two places at a time; n is odd, and so one is left.
+fn search_pairs(
+    n: usize,
+    t: usize,
+    first: u16,
+    lg: &[u16],
+    st: &[u16],
+    count: usize,
+    s: usize,
+    e: &[u16],
+    w: &mut [u8],
+) -> usize
+    requires { ⌜ Powered s (now e) × Listed s count (now lg) (now st) × (n ≤ 2 ^ s - 1) × (n ≤ length (now w)) × (n % 2 ≡ 1) ⌝ }
+    ensures { λ r. ⌜ Found n t (hits n (vanishesAlone s first count (now (lg .entry)) (now (st .entry)))) (now (w .entry)) (now (w .exit)) r ⌝ }
+{
+    let mut c: usize = 0;
+    let mut i: usize = 0;
+    while i + 1 < n {
+        let p = pair(first, lg, st, count, i, s, e);
+        c = c + mark(p.here == 0, w, i);
+        c = c + mark(p.next == 0, w, i + 1);
+        if t < c {
+            return c;
+        }
+        i = i + 2;
+    }
+    let hit = value_vanishes(first, lg, st, count, i, s, e);
+    c + mark(hit, w, i)
 }
 
 // Changes the places i below n of w at which f(α^(i z) x) divides the locator, and counts them; it stops as soon as there
@@ -76,5 +110,8 @@ pub fn change(
 {
     let back = (n - z) * (order(s) / n);
     let count = walk(s, back, f, u, lam, len, g, lg, st, lo, hi);
+    if u == 1 {
+        return search_pairs(n, t, lam[0], lg, st, count, s, e, w);
+    }
     search(n, t, lam[0], lg, st, lo, hi, count, u, s, e, w)
 }

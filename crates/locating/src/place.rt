@@ -8,7 +8,7 @@ ghost use Rattle.locating.specs.Terms.{termSum, vanishes as vanishesOf, 
 use tables::exponent::term;
 
 // For f = 1 + x: the remainder is one coefficient, with a 1 for every term, and so takes no lanes.
-fn value_vanishes(
+pub fn value_vanishes(
     first: u16,
     lg: &[u16],
     st: &[u16],
@@ -36,7 +36,7 @@ fn wide(x: u16) -> u64
 }
 
 // For any f: a lane of two words for each coefficient, and so one load and two products a term.
-fn lanes_vanish(
+pub fn lanes_vanish(
     first: u16,
     lg: &[u16],
     st: &[u16],
@@ -61,26 +61,4 @@ fn lanes_vanish(
         m = m + 1;
     }
     if b == 0 { a == 0 } else { false }
-}
-
-// Whether f divides the locator at place i.
-pub fn vanishes(
-    first: u16,
-    lg: &[u16],
-    st: &[u16],
-    lo: &[u64],
-    hi: &[u64],
-    count: usize,
-    u: usize,
-    i: usize,
-    s: usize,
-    e: &[u16],
-) -> bool
-    requires { ⌜ Searchable s u count (now lg) (now st) (now lo) (now hi) (now e) × (i < 2 ^ s - 1) ⌝ }
-    ensures { λ r. ⌜ r ≡ vanishesOf s first count (now (lg .entry)) (now (st .entry)) (now (lo .entry)) (now (hi .entry)) i ⌝ }
-{
-    if u == 1 {
-        return value_vanishes(first, lg, st, count, i, s, e);
-    }
-    lanes_vanish(first, lg, st, lo, hi, count, u, i, s, e)
 }

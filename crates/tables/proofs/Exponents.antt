@@ -3,11 +3,12 @@
 --   power-mod         an exponent may be replaced by its remainder, also under a factor
 --   masked, folded-lt, power-folded      or by the sum of its low and its high part
 --   exponent-lt, exponent-cap      the product of two exponents
---   looked            a power read off the table
+--   looked, looked-next      a power read off the table, and that of the next place
 use mathlib.Core.Path.{_≡_, sym, ap, _∙_}
 use mathlib.Core.List.{List}
 use Prim.Native.Nat.{ℕ, zero, suc, _+_, _-_, _*_, _/_, _%_, _^_, _≤_, _<_}
 use native.Mathlib.Nat.{div-add-mod', div-lt-iff-lt-mul, mod-lt, mul-add, mul-assoc, mul-le-mul, mul-one, suc-mul, zero-mul}
+use native.Mathlib.Numerals.{add-one}
 use native.Mathlib.Omega.{arith}
 use lib.Bits.{bitAnd, and-mask}
 use lib.ListN.{getD}
@@ -67,7 +68,16 @@ exponent-cap {s} {i} {a} d h l =
     let b : 2 ^ s ≤ 4096 = Degree-bounds d .1 in
     mul-le-mul {n₁ = i} {m₁ = a} {n₂ = 4095} {m₂ = 4095} (omega arith) (omega arith)
 
-pub looked : {s l y : ℕ} (i a : ℕ) {e : List ℕ} → Powered s e → l < 2 ^ s - 1 → y ≡ i * a % 2 ^ s + i * a / 2 ^ s
-    → y < 2 * (2 ^ s - 1) → getD e (l + y) 0 ≡ fieldPower s ω (l + i * a)
-looked {s} {l} {y} i a {e} p h q b =
-    p .powers .at (l + y) (omega arith) ∙ ap (λ (x : ℕ). fieldPower s ω (l + x)) q ∙ power-folded (p .degree) l (i * a)
+pub looked : {s y : ℕ} (l i a : ℕ) {e : List ℕ} → Powered s e → y ≡ l + (i * a % 2 ^ s + i * a / 2 ^ s) → y < 3 * (2 ^ s - 1)
+    → getD e y 0 ≡ fieldPower s ω (l + i * a)
+looked {s} {y} l i a {e} p q b =
+    p .powers .at y (omega arith) ∙ ap (fieldPower s ω) q ∙ power-folded (p .degree) l (i * a)
+
+-- the next place is one step on
+pub looked-next : {s y : ℕ} (l i a : ℕ) {e : List ℕ} → Powered s e → y ≡ l + (i * a % 2 ^ s + i * a / 2 ^ s) → y < 3 * (2 ^ s - 1)
+    → a < 2 ^ s - 1 → getD e (y + a) 0 ≡ fieldPower s ω (l + (i + 1) * a)
+looked-next {s} {y} l i a {e} p q b h =
+    let x : ℕ = i * a % 2 ^ s + i * a / 2 ^ s in
+    let m : y + a ≡ l + a + x = omega arith in
+    let k : l + a + i * a ≡ l + (i + 1) * a = omega (arith, add-one i, suc-mul i a, ap (λ (z : ℕ). z * a) (add-one i)) in
+    p .powers .at (y + a) (omega arith) ∙ ap (fieldPower s ω) m ∙ power-folded (p .degree) (l + a) (i * a) ∙ ap (fieldPower s ω) k

@@ -13,11 +13,20 @@ pub fn fold(y: usize, s: usize) -> usize
     (y & order(s)) + (y >> s)
 }
 
+// Where ω^(l + i a) stands in the table, a sum of less than three rounds.
+pub fn index(l: u16, a: u16, i: usize, s: usize) -> usize
+    requires { ⌜ Degree s × (l < 2 ^ s - 1) × (a < 2 ^ s - 1) × (i < 2 ^ s - 1) ⌝ }
+    ensures { λ r. ⌜ (r ≡ l + (i * a % 2 ^ s + i * a / 2 ^ s)) × (r < 3 * (2 ^ s - 1)) ⌝ }
+{
+    let y = fold(i * (a as usize), s);
+    (l as usize) + y
+}
+
 // ω^(l + i a)
 pub fn term(l: u16, a: u16, i: usize, s: usize, e: &[u16]) -> u16
     requires { ⌜ Powered s (now e) × (l < 2 ^ s - 1) × (a < 2 ^ s - 1) × (i < 2 ^ s - 1) ⌝ }
     ensures { λ r. ⌜ r ≡ fieldPower s ω (l + i * a) ⌝ }
 {
-    let y = fold(i * (a as usize), s);
-    e[(l as usize) + y]
+    let y = index(l, a, i, s);
+    e[y]
 }

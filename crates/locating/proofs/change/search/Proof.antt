@@ -21,8 +21,8 @@ loop-holds : tie.Need-loop-holds Inv-loop μ-loop
 loop-holds c =
     (c .before .before .before .before .before .before .pre, refl, finding-start, omega arith, omega arith, omega arith)
 
-vanishes-requires : tie.Need-vanishes-requires Inv-loop μ-loop
-vanishes-requires c κs = let p = c .before .loop .inv .0 in (p .0, omega (arith, p .1))
+lanes-vanish-requires : tie.Need-lanes-vanish-requires Inv-loop μ-loop
+lanes-vanish-requires c κs = let p = c .before .loop .inv .0 in (p .0, omega (arith, p .1))
 
 mark-requires : tie.Need-mark-requires Inv-loop μ-loop
 mark-requires c κs = let v = c .before .before .before .loop .inv in omega (arith, v .0 .2, v .1)
@@ -41,7 +41,7 @@ returns : tie.Need-returns Inv-loop μ-loop
 returns c =
     let m = c .before .before .before in
     let v = m .before .before .before .before .loop .inv in
-    finding-many (omega arith) (c .if1 .taken) (finding-more (m .before .before .vanishes .ensures) (m .mark .ensures) (v .2))
+    finding-many (omega arith) (c .if1 .taken) (finding-more (m .before .before .lanes-vanish .ensures) (m .mark .ensures) (v .2))
 
 add-i : tie.Need-add-i Inv-loop μ-loop
 add-i c =
@@ -57,7 +57,7 @@ loop-again c =
     let v = m .before .before .before .before .loop .inv in (
       v .0,
       omega (arith, v .1, m .mark .kept .1 .0),
-      finding-more (m .before .before .vanishes .ensures) (m .mark .ensures) (v .2),
+      finding-more (m .before .before .lanes-vanish .ensures) (m .mark .ensures) (v .2),
       c .if1 .left,
       omega (arith, v .4, marked-le (m .mark .ensures)),
       omega arith,
@@ -76,7 +76,7 @@ search-spec =
     Inv-loop
     μ-loop
     loop-holds
-    vanishes-requires
+    lanes-vanish-requires
     mark-requires
     add-c
     same-length

@@ -65,10 +65,16 @@ loop-less : tie.Need-loop-less Inv-loop μ-loop
 loop-less c = omega arith
 
 loop-again : tie.Need-loop-again Inv-loop μ-loop
-loop-again c = let v = c .before .before .before .before .before .before .before .before .before .loop .inv in let f = value-here (testable (v .0)) (v .2) _ (v .1) (c .before .before .before .before .before .value .ensures .0) in
-    (v .0, v .1, v .2, v .3, omega arith, omega (arith, v .5, c .before .before .spread .kept .1 .1 .1 .1 .1 .1 .0),
-    computing-more (v .6) refl f (c .before .before .spread .ensures),
-    subst (Quiet _ _ _ _ _) (sym (c .before .before .before .before .quiet .ensures)) (quiet-more (testable (v .0)) (omega (arith, v .3)) refl f (v .7)))
+loop-again c = let v = c .before .before .before .before .before .before .before .before .before .loop .inv in let f = value-here (testable (v .0)) (v .2) _ (v .1) (c .before .before .before .before .before .value .ensures .0) in (
+  v .0,
+  v .1,
+  v .2,
+  v .3,
+  omega arith,
+  omega (arith, v .5, c .before .before .spread .kept .1 .1 .1 .1 .1 .1 .0),
+  computing-more (v .6) refl f (c .before .before .spread .ensures),
+  subst (Quiet _ _ _ _ _) (sym (c .before .before .before .before .quiet .ensures)) (quiet-more (testable (v .0)) (omega (arith, v .3)) refl f (v .7)),
+)
 
 same-length : tie.Need-same-length Inv-loop μ-loop
 same-length c = omega (arith, c .before .before .before .before .before .ones .kept .1 .1 .0)

@@ -1,10 +1,10 @@
 -- The arrays as they are made.
 --
---   cleared             an array of 0 has no coefficients
+--   cleared, nothing    an array of 0 has no coefficients
 --   short-room, long-room      room for 63 terms, and for 1,023
 --   degree-of, terms-few       s is a degree of the table, and L at most 1,023
 --   small-tables, large-tables      room for the tables of a degree up to 8, and up to 12
-use mathlib.Core.Path.{_≡_, sym, subst}
+use mathlib.Core.Path.{_≡_, sym, _∙_, subst}
 use mathlib.Core.Logic.{_⊎_, inl, inr}
 use mathlib.Core.List.{List}
 use Prim.Native.Nat.{ℕ, _*_, _-_, _^_, _≤_, _<_}
@@ -18,6 +18,8 @@ use Rattle.document.proofs.Theory.{degree}
 use Rattle.certificate.specs.declared.types.Certificate.{Certificate as CodeCertificate}
 use Rattle.certificate.specs.Rules.{certificateAs}
 use Rattle.distance.proofs.Rules.{in-range}
+use Rattle.cyclic.proofs.Places.{coefficient-zero}
+use Rattle.binary.specs.Bits.{Holds}
 use Rattle.poly.specs.Slice.{Short}
 use Rattle.decoding.specs.Correct.{Given, Room}
 
@@ -28,10 +30,15 @@ cleared m = record { at = λ i h. go i (le-or-lt m i) }
     go i (inl h) = List·getD-eq-default (replicate m 0) 0 (omega (arith, length-replicate {A = ℕ} m 0))
     go i (inr h) = getD-replicate {A = ℕ} m i 0 0 h
 
+nothing : (m : ℕ) → Holds 0 (replicate m 0)
+nothing m = record { at = λ i. cleared m .at i (omega arith) ∙ sym (coefficient-zero i) }
+
 pub short-room : {n L : ℕ} → n ≤ 127 → L < 64
     → Room n L (replicate 128 0) (replicate 128 0) (replicate 64 0) (replicate 64 0) (replicate 64 0) (replicate 64 0) (replicate 64 0) (replicate 64 0)
-    (replicate 64 0) (replicate 64 0)
+    (replicate 64 0) (replicate 64 0) (replicate 128 0)
 short-room h l = record {
+  d-long = omega arith;
+  d-zero = nothing 128;
   list-long = omega arith;
   val-long = omega arith;
   a-long = omega arith;
@@ -50,8 +57,10 @@ short-room h l = record {
 
 pub long-room : {n L : ℕ} → n ≤ 127 → L ≤ 1023
     → Room n L (replicate 128 0) (replicate 128 0) (replicate 1024 0) (replicate 1024 0) (replicate 1024 0) (replicate 1024 0) (replicate 1024 0) (replicate 1024 0)
-    (replicate 1024 0) (replicate 1024 0)
+    (replicate 1024 0) (replicate 1024 0) (replicate 128 0)
 long-room h l = record {
+  d-long = omega arith;
+  d-zero = nothing 128;
   list-long = omega arith;
   val-long = omega arith;
   a-long = omega arith;

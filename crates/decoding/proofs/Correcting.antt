@@ -1,6 +1,6 @@
 -- The parts of correcting a word, joined.
 --
---   computable, walkable, testable, solvable, searchable      what each part needs of what was there before
+--   computable, walkable, comparable, solvable, searchable      what each part needs of what was there before
 --   stop-fits, f-small, few      t u is at most L, f below 512, L at most 1,023
 --   marked-v, marked-x      the slice that holds the locator
 --   passed-many, passed-yes, passed-no      the exits of the last test
@@ -12,6 +12,7 @@ use mathlib.Core.Logic.{_↔_}
 use mathlib.Core.Bool.{Bool, true, false}
 use mathlib.Core.List.{List, [], _∷_}
 use Prim.Native.Nat.{ℕ, suc, _+_, _-_, _*_, _/_, _^_, _≤_, _<_}
+use native.Mathlib.Nat.{one-mul, mul-one}
 use native.Mathlib.Decide.{decLt}
 use native.Mathlib.Omega.{arith}
 use lib.ListN.{length, getD}
@@ -22,7 +23,7 @@ use Rattle.algebra.proofs.Rows.{Done}
 use Rattle.field.specs.Mask.{_⊕_, coefficient}
 use Rattle.field.specs.Field.{Degree, orderOfTwo}
 use Rattle.field.proofs.Search.{true-ne-false}
-use Rattle.field.proofs.Xor.{digit-lt, ⊕-lt}
+use Rattle.field.proofs.Xor.{digit-lt, ⊕-zero-l}
 use Rattle.field.proofs.Elements.{F, GF}
 use Rattle.masks.specs.Factor.{degree as degreeOf, Modulus}
 use Rattle.cyclic.proofs.Places.{count}
@@ -43,11 +44,11 @@ use Rattle.certificate.proofs.Checks.{modulus-of, walkable-ranged}
 use Rattle.certificate.proofs.Terms.{f-fits}
 use Rattle.distance.proofs.Rules.{Sound, in-range, theory}
 use Rattle.distance.proofs.Distance.{Word, differences-self}
-use Rattle.binary.specs.Bits.{Holds}
+use Rattle.binary.specs.Bits.{Holds, Summed}
 use Rattle.poly.specs.Slice.{Small, Short, series}
 use Rattle.poly.specs.Key.{Solvable, Key, Solved, Outcome}
-use Rattle.syndrome.specs.Value.{Listable, Computable, Computed, Testable, Tested}
-use Rattle.syndrome.proofs.Computing.{powered-of}
+use Rattle.syndrome.specs.Value.{Listable, Computable, Computed, Tested, Comparable, Compared}
+use Rattle.syndrome.proofs.Computing.{powered-of, rep-in}
 use Rattle.syndrome.specs.Series.{Syndromes}
 use Rattle.locating.specs.Change.{Search, Changed}
 use Rattle.decoding.specs.declared.types.Correction.{Correction}
@@ -71,19 +72,16 @@ module _ {n s t : ℕ} {c : CodeCertificate} {reps : List ℕ} (p : Given n s t 
       (stop-fits₀ (c .terms) (degreeOf (c .f)) (degreeOf (c .h)) (range .v))
 
 -- ---- what the parts need
-module _ {n s t : ℕ} {c : CodeCertificate} {reps e g list val a b v x lg st lo hi w : List ℕ}
-    (p : Correctable n s t c reps e g list val a b v x lg st lo hi w) where
-  listable : {w′ list′ : List ℕ} {r : ℕ} → Holds r w′ → length w′ ≡ length w → length list′ ≡ length list → Listable n w′ list′
-  listable {w′} {r = r} h lw ll = record {
-    few = omega (arith, p .given .most);
-    bits = λ i. subst (λ (y : ℕ). y < 2) (sym (h .at i)) (digit-lt (r / 2 ^ i));
-    w-long = omega (arith, lw, p .held .long);
-    list-long = omega (arith, ll, p .room .list-long);
-  }
-
+module _ {n s t : ℕ} {c : CodeCertificate} {reps e g list val a b v x lg st lo hi d w : List ℕ}
+    (p : Correctable n s t c reps e g list val a b v x lg st lo hi d w) where
   pub computable : Computable n s w reps e g list val
   computable = record {
-    listable = listable (p .held .holds) refl refl;
+    listable = record {
+      few = omega (arith, p .given .most);
+      bits = λ i. subst (λ (y : ℕ). y < 2) (sym (p .held .holds .at i)) (digit-lt (p .held .word / 2 ^ i));
+      w-long = p .held .long;
+      list-long = p .room .list-long;
+    };
     odd = p .given .length-of .odd;
     s-is = p .given .s-is;
     val-long = p .room .val-long;
@@ -100,20 +98,31 @@ module _ {n s t : ℕ} {c : CodeCertificate} {reps e g list val a b v x lg st lo
   pub few : c .terms ≤ 1023
   few = range (p .given) .L-high
 
-  -- where at most t places are changed, the word is one
-  pub testable : {m : ℕ} {second : Bool} {v′ x′ w′ list′ : List ℕ} → Marked n s t c second v′ x′ w w′ m → length w′ ≡ length w
-      → length list′ ≡ length list → m ≤ t → Testable n s w′ reps e list′
-  testable {second = second} {w′ = w′} {list′} y lw ll h = record {
-    listable = room second refl;
-    odd = p .given .length-of .odd;
-    s-is = p .given .s-is;
-    below = p .given .below;
-    powered = powered-of (p .tables);
+  -- where at most t places are changed, d holds them
+  pub comparable : {m : ℕ} {second : Bool} {v′ x′ d′ list′ val′ : List ℕ} → Marked n s t c second v′ x′ d d′ m → length d′ ≡ length d
+      → length list′ ≡ length list → length val′ ≡ length val → m ≤ t → Comparable n s d′ reps val′ e list′
+  comparable {second = second} {d′ = d′} {list′} y ld ll lv h = record {
+    testable = record {
+      listable = room second refl;
+      odd = p .given .length-of .odd;
+      s-is = p .given .s-is;
+      below = p .given .below;
+      powered = powered-of (p .tables);
+    };
+    val-long = omega (arith, lv, p .room .val-long);
   }
     where
-      room : (z : Bool) → second ≡ z → Listable n w′ list′
-      room false e = listable (y .by-v e .found .all h .1 _ (p .held .holds)) lw ll
-      room true e = listable (y .by-x e .found .all h .1 _ (p .held .holds)) lw ll
+      bits : {r : ℕ} → Holds r d′ → Listable n d′ list′
+      bits {r} q = record {
+        few = omega (arith, p .given .most);
+        bits = λ i. subst (λ (y : ℕ). y < 2) (sym (q .at i)) (digit-lt (r / 2 ^ i));
+        w-long = omega (arith, ld, p .room .d-long);
+        list-long = omega (arith, ll, p .room .list-long);
+      }
+
+      room : (z : Bool) → second ≡ z → Listable n d′ list′
+      room false e = bits (y .by-v e .found .all h .1 _ (p .room .d-zero))
+      room true e = bits (y .by-x e .found .all h .1 _ (p .room .d-zero))
 
   pub solvable : {u : ℕ} {val′ b′ : List ℕ} → u ≡ degreeOf (c .f) → Computed n s w reps val′ → Syndromes n (certificateAs c) val′ b b′
       → length b′ ≡ length b → Solvable s (c .terms) (c .terms - t * u) a b′ v x e g
@@ -138,7 +147,7 @@ module _ {n s t : ℕ} {c : CodeCertificate} {reps e g list val a b v x lg st lo
   module _ {u τ len : ℕ} {S v′ x′ : List ℕ} {second : Bool} (eu : u ≡ degreeOf (c .f)) (o : Outcome s (c .terms) τ S second len v′ x′)
       (lv : length v′ ≡ length v) (lx : length x′ ≡ length x) where
     search : {lam : List ℕ} → Solved s (c .terms) τ S lam len → (len ≤ length lg) × (len ≤ length st) × (len ≤ length lo) × (len ≤ length hi)
-        → Search n s (c .z) (c .f) u len lam e g lg st lo hi w
+        → Search n s (c .z) (c .f) u len lam e g lg st lo hi d
     search y q = record {
       tables = p .tables;
       odd = p .given .length-of .odd;
@@ -156,10 +165,10 @@ module _ {n s t : ℕ} {c : CodeCertificate} {reps e g list val a b v x lg st lo
         lo-long = q .2;
         hi-long = q .3;
       };
-      w-long = p .held .long;
+      w-long = p .room .d-long;
     }
 
-    pub searchable : Searchable n s c u second len v′ x′ e g lg st lo hi w
+    pub searchable : Searchable n s c u second len v′ x′ e g lg st lo hi d
     searchable = record {
       in-v = λ q. search (o .in-v q) (
         omega (arith, o .in-v q .long, lv, p .room .lg-long .0),
@@ -187,8 +196,8 @@ module _ {n s t m : ℕ} {c : CodeCertificate} {second : Bool} {v x w w′ : Lis
   marked-x e y = record { by-v = λ q. absurd (differ (sym e ∙ q)); by-x = λ _. y }
 
 -- ---- the last test
-module _ {n t m : ℕ} {w reps : List ℕ} where
-  pub passed-many : t < m → Passed n t m w reps None
+module _ {n s t m : ℕ} {d reps val : List ℕ} where
+  pub passed-many : t < m → Passed n s t m d reps val None
   passed-many h = record {
     many = λ _. refl;
     right = false;
@@ -197,8 +206,8 @@ module _ {n t m : ℕ} {w reps : List ℕ} where
     no = λ l e. refl;
   }
 
-  module _ {right : Bool} (h : m ≤ t) (y : Tested n w reps right) where
-    pub passed-yes : right ≡ true → Passed n t m w reps (Places m)
+  module _ {right : Bool} (h : m ≤ t) (y : Compared n s d reps val right) where
+    pub passed-yes : right ≡ true → Passed n s t m d reps val (Places m)
     passed-yes e = record {
       many = λ l. absurd (omega arith);
       right = right;
@@ -207,7 +216,7 @@ module _ {n t m : ℕ} {w reps : List ℕ} where
       no = λ _ q. absurd (differ (sym e ∙ q));
     }
 
-    pub passed-no : right ≡ false → Passed n t m w reps None
+    pub passed-no : right ≡ false → Passed n s t m d reps val None
     passed-no e = record {
       many = λ _. refl;
       right = right;
@@ -226,10 +235,10 @@ corrected-clean {n} {t} y e = record {
 }
 
 -- ---- the exits, where s is the code's own degree
-module _ {n t : ℕ} {c : CodeCertificate} {reps : List ℕ} (p : Given n (orderOfTwo n) t c reps) {w w′ val b b′ lam : List ℕ} {τ len m : ℕ}
+module _ {n t : ℕ} {c : CodeCertificate} {reps : List ℕ} (p : Given n (orderOfTwo n) t c reps) {w w′ d d′ val b b′ lam : List ℕ} {τ len m : ℕ}
     (values : Computed n (orderOfTwo n) w reps val) (written : Syndromes n (certificateAs c) val b b′) (fresh : Short 0 b)
     (τ-is : τ ≡ c .terms - t * degreeOf (c .f)) (solved : Solved (orderOfTwo n) (c .terms) τ b′ lam len)
-    (marked : Changed n (orderOfTwo n) (c .z) (c .f) t lam w w′ m) where
+    (marked : Changed n (orderOfTwo n) (c .z) (c .f) t lam d d′ m) (zero : Holds 0 d) (added : Summed 0 n 1 d′ w w′) where
   abbrev l : Length n
   l = p .length-of
 
@@ -273,7 +282,7 @@ module _ {n t : ℕ} {c : CodeCertificate} {reps : List ℕ} (p : Given n (order
       differ : {y : ℕ} → [] ≡ y ∷ [] → ⊥
       differ e = let z : _≡_ {A = ℕ} 0 1 = ap length e in omega arith
 
-  exit-tested : {y : Bool} → m ≤ t → Tested n w′ reps y → (y ≡ true → Corrected n t reps w w′ (Places m)) × (y ≡ false → Corrected n t reps w w′ None)
+  exit-tested : {y : Bool} → m ≤ t → Compared n (orderOfTwo n) d′ reps val y → (y ≡ true → Corrected n t reps w w′ (Places m)) × (y ≡ false → Corrected n t reps w w′ None)
   exit-tested {y} h k = (here, other)
     where
       differ : {z : ℕ} → [] ≡ z ∷ [] → ⊥
@@ -282,11 +291,16 @@ module _ {n t : ℕ} {c : CodeCertificate} {reps : List ℕ} (p : Given n (order
       same : {z z′ : ℕ} → z ∷ [] ≡ z′ ∷ [] → z ≡ z′
       same e = ap (λ (q : List ℕ). getD q 0 0) e
 
+      changes : Holds (marked .places) d′
+      changes = subst (λ (q : ℕ). Holds q d′) (⊕-zero-l (marked .places)) (marked .found .all h .1 0 zero)
+
       changed : {r : ℕ} → Holds r w → Holds (r ⊕ marked .places) w′
-      changed hr = marked .found .all h .1 _ hr
+      changed {r} hr =
+          let one : 1 * (marked .places * 2 ^ 0) ≡ marked .places = omega (arith, one-mul (marked .places * 2 ^ 0), mul-one (marked .places)) in
+          subst (λ (q : ℕ). Holds (r ⊕ q) w′) one (added .holds (omega arith) changes (marked .small) hr)
 
       says : {r : ℕ} → Holds r w → r < 2 ^ n → y ≡ isCodeword (n - dimension n reps) (generator n reps) (r ⊕ marked .places)
-      says {r} hr lr = k .is (r ⊕ marked .places) (changed hr) (⊕-lt n r (marked .places) lr (marked .small))
+      says {r} hr lr = k .is r (marked .places) changes lr (marked .small) (λ i l. values .at r hr lr (getD reps i 0) (rep-in (p .length-of) reps (p .below) i l))
 
       here : y ≡ true → Corrected n t reps w w′ (Places m)
       here e = record {
@@ -311,7 +325,7 @@ module _ {n t : ℕ} {c : CodeCertificate} {reps : List ℕ} (p : Given n (order
             (sym (says hr lr) ∙ e) x (word o));
       }
 
-  passed : {answer : Correction} → Passed n t m w′ reps answer → Corrected n t reps w w′ answer
+  passed : {answer : Correction} → Passed n (orderOfTwo n) t m d′ reps val answer → Corrected n t reps w w′ answer
   passed {answer} k = go (decLt t m)
     where
       like : {y : Correction} → answer ≡ y → Corrected n t reps w w′ y → Corrected n t reps w w′ answer
@@ -326,20 +340,21 @@ module _ {n t : ℕ} {c : CodeCertificate} {reps : List ℕ} (p : Given n (order
       go (no h) = tested (omega arith) (k .right) refl
 
 -- ---- for any name of the degree, and whichever slice the locator stands in
-module _ {n s t : ℕ} {c : CodeCertificate} {reps : List ℕ} (p : Given n s t c reps) {w w′ val b b′ : List ℕ} {τ len m : ℕ} {answer : Correction} where
+module _ {n s t : ℕ} {c : CodeCertificate} {reps : List ℕ} (p : Given n s t c reps) {w w′ d d′ val b b′ : List ℕ} {τ len m : ℕ} {answer : Correction} (zero : Holds 0 d) (added : Summed 0 n 1 d′ w w′) where
   at-own : {lam : List ℕ} → Computed n s w reps val → Syndromes n (certificateAs c) val b b′ → Short 0 b → τ ≡ c .terms - t * degreeOf (c .f)
-      → Solved s (c .terms) τ b′ lam len → Changed n s (c .z) (c .f) t lam w w′ m → Passed n t m w′ reps answer → Corrected n t reps w w′ answer
+      → Solved s (c .terms) τ b′ lam len → Changed n s (c .z) (c .f) t lam d d′ m → Passed n s t m d′ reps val answer → Corrected n t reps w w′ answer
   at-own {lam} values written fresh τ-is solved marked k =
-      own (p .s-is) p values solved marked
+      own (p .s-is) p values solved marked k
     where
-      own : {d : ℕ} → d ≡ orderOfTwo n → Given n d t c reps → Computed n d w reps val → Solved d (c .terms) τ b′ lam len
-          → Changed n d (c .z) (c .f) t lam w w′ m → Corrected n t reps w w′ answer
-      own {d} e p values solved marked =
+      own : {i : ℕ} → i ≡ orderOfTwo n → Given n i t c reps → Computed n i w reps val → Solved i (c .terms) τ b′ lam len
+          → Changed n i (c .z) (c .f) t lam d d′ m → Passed n i t m d′ reps val answer → Corrected n t reps w w′ answer
+      own {i} e p values solved marked k =
           passed (subst (λ (i : ℕ). Given n i t c reps) e p) (subst (λ (i : ℕ). Computed n i w reps val) e values) written fresh τ-is
-          (subst (λ (i : ℕ). Solved i (c .terms) τ b′ lam len) e solved) (subst (λ (i : ℕ). Changed n i (c .z) (c .f) t lam w w′ m) e marked) k
+          (subst (λ (i : ℕ). Solved i (c .terms) τ b′ lam len) e solved) (subst (λ (i : ℕ). Changed n i (c .z) (c .f) t lam d d′ m) e marked) zero added
+          (subst (λ (i : ℕ). Passed n i t m d′ reps val answer) e k)
 
   pub corrected : {v x : List ℕ} {u : ℕ} {second : Bool} → Computed n s w reps val → Syndromes n (certificateAs c) val b b′ → Short 0 b → u ≡ degreeOf (c .f)
-      → τ ≡ c .terms - t * u → Outcome s (c .terms) τ b′ second len v x → Marked n s t c second v x w w′ m → Passed n t m w′ reps answer
+      → τ ≡ c .terms - t * u → Outcome s (c .terms) τ b′ second len v x → Marked n s t c second v x d d′ m → Passed n s t m d′ reps val answer
       → Corrected n t reps w w′ answer
   corrected {second = second} values written fresh eu eτ o marked k = go second refl
     where

@@ -21,7 +21,7 @@ use Rattle.certificate.specs.Rules.{certificateAs}
 use Rattle.distance.proofs.Rules.{Sound}
 use Rattle.binary.specs.Bits.{Holds}
 use Rattle.poly.specs.Slice.{Small, Short}
-use Rattle.syndrome.specs.Value.{Tested}
+use Rattle.syndrome.specs.Value.{Compared}
 use Rattle.locating.specs.Change.{Search, Changed}
 use Rattle.decoding.specs.declared.types.Correction.{Correction}
 use Rattle.decoding.specs.declared.types.Correction.the-variants.{Places, None}
@@ -35,13 +35,13 @@ pub record Given (n s t : ℕ) (c : CodeCertificate) (reps : List ℕ) : Type 0 
   pub t-is : t ≡ radius (certificateAs c)
 
 -- ---- the places of a locator
-pub record Searchable (n s : ℕ) (c : CodeCertificate) (u : ℕ) (second : Bool) (len : ℕ) (v x e g lg st lo hi w : List ℕ) : Type 0 where
-  pub in-v : second ≡ false → Search n s (c .z) (c .f) u len v e g lg st lo hi w
-  pub in-x : second ≡ true → Search n s (c .z) (c .f) u len x e g lg st lo hi w
+pub record Searchable (n s : ℕ) (c : CodeCertificate) (u : ℕ) (second : Bool) (len : ℕ) (v x e g lg st lo hi d : List ℕ) : Type 0 where
+  pub in-v : second ≡ false → Search n s (c .z) (c .f) u len v e g lg st lo hi d
+  pub in-x : second ≡ true → Search n s (c .z) (c .f) u len x e g lg st lo hi d
 
-pub record Marked (n s t : ℕ) (c : CodeCertificate) (second : Bool) (v x w w′ : List ℕ) (r : ℕ) : Type 0 where
-  pub by-v : second ≡ false → Changed n s (c .z) (c .f) t v w w′ r
-  pub by-x : second ≡ true → Changed n s (c .z) (c .f) t x w w′ r
+pub record Marked (n s t : ℕ) (c : CodeCertificate) (second : Bool) (v x d d′ : List ℕ) (r : ℕ) : Type 0 where
+  pub by-v : second ≡ false → Changed n s (c .z) (c .f) t v d d′ r
+  pub by-x : second ≡ true → Changed n s (c .z) (c .f) t x d d′ r
 
 -- ---- the last test
 -- the number of changed places, or nothing
@@ -49,16 +49,18 @@ abbrev pub placesOf : Correction → List ℕ
 placesOf (Places m) = m ∷ []
 placesOf None = []
 
--- more than t places changed, or no codeword: nothing
-pub record Passed (n t m : ℕ) (w reps : List ℕ) (answer : Correction) : Type 0 where
+-- d holds the changes: more than t, or no codeword with them: nothing
+pub record Passed (n s t m : ℕ) (d reps val : List ℕ) (answer : Correction) : Type 0 where
   pub many : t < m → answer ≡ None
   pub right : Bool
-  pub tested : m ≤ t → Tested n w reps right
+  pub tested : m ≤ t → Compared n s d reps val right
   pub yes : m ≤ t → right ≡ true → answer ≡ Places m
   pub no : m ≤ t → right ≡ false → answer ≡ None
 
 -- ---- the whole
-pub record Room (n L : ℕ) (list val a b v x lg st lo hi : List ℕ) : Type 0 where
+pub record Room (n L : ℕ) (list val a b v x lg st lo hi d : List ℕ) : Type 0 where
+  pub d-long : n ≤ length d
+  pub d-zero : Holds 0 d
   pub list-long : n ≤ length list
   pub val-long : n ≤ length val
   pub a-long : L < length a
@@ -81,10 +83,10 @@ pub record Held (n : ℕ) (w : List ℕ) : Type 0 where
   pub holds : Holds word w
   pub long : n ≤ length w
 
-pub record Correctable (n s t : ℕ) (c : CodeCertificate) (reps e g list val a b v x lg st lo hi w : List ℕ) : Type 0 where
+pub record Correctable (n s t : ℕ) (c : CodeCertificate) (reps e g list val a b v x lg st lo hi d w : List ℕ) : Type 0 where
   pub given : Given n s t c reps
   pub tables : Tables s e g
-  pub room : Room n (c .terms) list val a b v x lg st lo hi
+  pub room : Room n (c .terms) list val a b v x lg st lo hi d
   pub held : Held n w
 
 -- a codeword of n places of the code of reps

@@ -22,6 +22,7 @@ fn in_short_room(
     ensures { λ r. ⌜ Corrected n t (now (reps .entry)) (now (w .entry)) (now (w .exit)) r ⌝ }
 {
     let mut list = [0u8; 128];
+    let mut d = [0u8; 128];
     let mut val = [0u16; 128];
     let mut a = [0u16; 64];
     let mut b = [0u16; 64];
@@ -49,6 +50,7 @@ fn in_short_room(
         &mut st,
         &mut lo,
         &mut hi,
+        &mut d,
         w,
     )
 }
@@ -67,6 +69,7 @@ fn in_long_room(
     ensures { λ r. ⌜ Corrected n t (now (reps .entry)) (now (w .entry)) (now (w .exit)) r ⌝ }
 {
     let mut list = [0u8; 128];
+    let mut d = [0u8; 128];
     let mut val = [0u16; 128];
     let mut a = [0u16; 1024];
     let mut b = [0u16; 1024];
@@ -94,6 +97,7 @@ fn in_long_room(
         &mut st,
         &mut lo,
         &mut hi,
+        &mut d,
         w,
     )
 }

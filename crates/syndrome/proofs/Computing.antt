@@ -6,13 +6,16 @@
 --   Computing, computing-start, computing-more, computing-end      the first k representatives with their cosets
 --   powered-of, computable-on, testable-on, testable, by-lt, valuable, value-here, spreadable      what the parts need
 --   Testing, testing-start, testing-more, testing-end, testing-wrong      a codeword is 0 at each representative
+--   rep-in             a representative is in D
+--   value-add          the value of a sum is the sum of the values
+--   Comparing, comparing-start, comparing-more, comparing-end, comparing-wrong      the word with places changed
 --   Quiet, quiet-zero, quiet-other, quiet-start, quiet-more, quiet-end      whether the values so far are 0
 use mathlib.Core.Path.{_≡_, refl, sym, ap, ap₂, _∙_, subst}
 use mathlib.Core.Logic.{_≢_}
 use mathlib.Core.Bool.{Bool, true, false, _&&_}
 use mathlib.Core.List.{List, [], _∷_}
 use Prim.Native.Nat.{ℕ, zero, suc, _+_, _-_, _*_, _/_, _%_, _^_, _≤_, _<_, _∣_}
-use native.Mathlib.Nat.{div-mul-cancel, mul-comm, mul-le-mul-left, mul-le-mul-right, mul-one, suc-mul, zero-mul}
+use native.Mathlib.Nat.{div-mul-cancel, mod-eq-of-lt, mul-comm, mul-le-mul-left, mul-le-mul-right, mul-one, suc-mul, zero-mul}
 use native.Mathlib.Decide.{ℕ-discrete, decLt}
 use native.Mathlib.Omega.{arith}
 use lib.Dec.{eqb}
@@ -25,14 +28,17 @@ use Rattle.field.specs.Field.{Degree, OddLength, orderOfTwo, ω, α, fieldPower
 use Rattle.field.proofs.OrderOfTwo.{order-divides}
 use Rattle.field.proofs.Product.{size-lt}
 use Rattle.field.proofs.Search.{true-ne-false}
-use Rattle.field.proofs.Xor.{⊕-zero-r}
+use Rattle.field.proofs.Elements.{GF, el, el-inj, el-add}
+use Rattle.field.proofs.Value.{value-add as ring-value-add}
+use Rattle.field.proofs.Xor.{⊕-zero-r, ⊕-lt, ⊕-self, ⊕-eq}
 use Rattle.cyclic.proofs.Places.{coefficient-above}
 use Rattle.document.specs.Generator.{valueBelow, valueAt}
-use Rattle.document.proofs.Theory.{Length, T-of, representatives}
-use Rattle.document.proofs.Demand2.{representatives-iff}
+use Rattle.document.specs.Coset.{inSet}
+use Rattle.document.proofs.Theory.{Length, T-of, of-T, representatives}
+use Rattle.document.proofs.Demand2.{below-lt, value-is, representatives-iff}
 use Rattle.binary.specs.Bits.{Holds}
 use Rattle.tables.specs.Tables.{Powered, Tables}
-use Rattle.syndrome.specs.Value.{sumOver, Listable, Listed, Valuable, valueOf, Spreadable, Spread, Computable, Computed, Testable, Tested}
+use Rattle.syndrome.specs.Value.{sumOver, Listable, Listed, Valuable, valueOf, Spreadable, Spread, Computable, Computed, Testable, Tested, Comparable, Compared}
 use Rattle.syndrome.proofs.Values.{power-by, value-of}
 
 -- ---- places past the last 1
@@ -290,3 +296,72 @@ quiet-end {n} {w = w} {reps} {quiet = quiet} p h t = go quiet refl
     go : (b : Bool) → quiet ≡ b → Tested n w reps quiet
     go true q = subst (Tested n w reps) (sym q) (testing-end p h (t .yes q))
     go false q = subst (Tested n w reps) (sym q) (t .no q)
+
+-- ---- a representative is in D
+pub rep-in : {n : ℕ} (l : Length n) (reps : List ℕ) → ((k : ℕ) → k < length reps → getD reps k 0 < n) → (k : ℕ) → k < length reps
+    → inSet n reps (getD reps k 0) ≡ true
+rep-in {n} l reps below k h =
+    let r : ℕ = getD reps k 0 in
+    let e : r * 2 ^ 0 % n ≡ r = ap (λ (x : ℕ). x % n) (mul-one r) ∙ mod-eq-of-lt (below k h) in
+    ap (inSet n reps) (sym e) ∙ of-T (inSet n reps (r * 2 ^ 0 % n)) (representatives l reps .inside (at-in reps k h) 0)
+
+-- ---- the value of a sum
+value-lt : {s : ℕ} (d : Degree s) (x c : ℕ) → valueAt s x c < 2 ^ s
+unfolding valueAt
+value-lt d x c = below-lt d x c (size c)
+
+value-add : {s : ℕ} (d : Degree s) (x a b : ℕ) → valueAt s x (a ⊕ b) ≡ valueAt s x a ⊕ valueAt s x b
+value-add {s} d x a b =
+    el-inj d (value-lt d x (a ⊕ b)) (⊕-lt s (valueAt s x a) (valueAt s x b) (value-lt d x a) (value-lt d x b))
+    (value-is d x (a ⊕ b) ∙ ring-value-add (GF d) (el d x) a b
+    ∙ sym (el-add d (valueAt s x a) (valueAt s x b) ∙ ap₂ (GF d .add) (value-is d x a) (value-is d x b)))
+
+-- ---- the values of the changes beside those of the word
+pub record Comparing (n s k : ℕ) (d reps val : List ℕ) : Type 0 where
+  pub done : (a : ℕ) → Holds a d → a < 2 ^ n → (i : ℕ) → i < k → getD val (getD reps i 0) 0 ≡ valueOf n s a (getD reps i 0)
+
+pub comparing-start : {n s : ℕ} {d reps val : List ℕ} → Comparing n s 0 d reps val
+comparing-start = record { done = λ a h l i b. absurd (omega arith) }
+
+pub comparing-more : {n s k r v : ℕ} {d reps val : List ℕ} → Comparing n s k d reps val → r ≡ getD reps k 0 → v ≡ getD val r 0
+    → ((a : ℕ) → Holds a d → a < 2 ^ n → v ≡ valueOf n s a r) → Comparing n s (k + 1) d reps val
+comparing-more {n} {s} {k} {r} {v} {d} {reps} {val} t e o f = record {
+  done = λ a h l i b. elim (ℕ-discrete i k) [
+    | yes q ↦ (let at : getD reps i 0 ≡ r = ap (λ (x : ℕ). getD reps x 0) q ∙ sym e in
+        ap (λ (x : ℕ). getD val x 0) at ∙ sym o ∙ f a h l ∙ ap (valueOf n s a) (sym at))
+    | no q ↦ t .done a h l i (omega arith)
+  ];
+}
+
+pub comparing-end : {n s k : ℕ} {d reps val e list : List ℕ} → Comparable n s d reps val e list → length reps ≤ k → Comparing n s k d reps val
+    → Compared n s d reps val true
+comparing-end {n} {s} {k} {d} {reps} {val} p h t = record {
+  is = λ c a ha lc la held.
+      sym
+      (representatives-iff (long (p .testable)) reps (c ⊕ a) .1
+      (all-of reps
+      (λ r i. let y = in-at i in
+      ap (λ (x : ℕ). valueAt x (fieldPower x (α x n) r) (c ⊕ a)) (sym (p .testable .s-is)) ∙ ap (valueOf n s (c ⊕ a)) (sym (y .2))
+      ∙ value-add (p .testable .powered .degree) (fieldPower s (α s n) (getD reps (y .0) 0)) c a
+      ∙ ap₂ _⊕_ (sym (held (y .0) (y .1))) (sym (t .done a ha la (y .0) (omega (arith, y .1))))
+      ∙ ⊕-self (getD val (getD reps (y .0) 0) 0))));
+}
+
+pub comparing-wrong : {n s k r v : ℕ} {d reps val e list : List ℕ} → Comparable n s d reps val e list → k < length reps → r ≡ getD reps k 0
+    → v ≢ getD val r 0 → ((a : ℕ) → Holds a d → a < 2 ^ n → v ≡ valueOf n s a r) → Compared n s d reps val false
+comparing-wrong {n} {s} {k} {r} {v} {d} {reps} {val} p h e ne f = record {
+  is = λ c a ha lc la held. no-word c a (f a ha la) (held k h) _ (λ y. representatives-iff (long (p .testable)) reps (c ⊕ a) .0 y);
+}
+  where
+    no-word : (c a : ℕ) → v ≡ valueOf n s a r → getD val (getD reps k 0) 0 ≡ valueOf n s c (getD reps k 0) → (b : Bool)
+        → (b ≡ true → All (λ r. valueOf n (orderOfTwo n) (c ⊕ a) r ≡ 0) reps) → false ≡ b
+    no-word c a q o false g = refl
+    no-word c a q o true g =
+        let sum : valueOf n s c r ⊕ valueOf n s a r ≡ 0 =
+        sym (value-add (p .testable .powered .degree) (fieldPower s (α s n) r) c a)
+        ∙ ap (λ (x : ℕ). valueAt x (fieldPower x (α x n) r) (c ⊕ a)) (p .testable .s-is)
+        ∙ all-at (g refl) (subst (λ (x : ℕ). In x reps) (sym e) (at-in reps k h)) in
+        absurd
+        (ne
+        (q ∙ sym (⊕-eq sum)
+        ∙ sym (ap (λ (x : ℕ). getD val x 0) e ∙ o ∙ ap (valueOf n s c) (sym e))))

@@ -8,6 +8,7 @@
 --   Spreadable, Spread      values along a coset: what it needs, and leaves
 --   Computable, Computed    the same for all of D
 --   Testable, Tested        whether a word is a codeword, by its values at the representatives
+--   Comparable, Compared    whether it is one with some places changed, by their values there
 use mathlib.Core.Path.{_≡_}
 use mathlib.Core.Bool.{Bool, true}
 use mathlib.Core.List.{List}
@@ -87,3 +88,13 @@ pub record Testable (n s : ℕ) (w reps e list : List ℕ) : Type 0 where
 
 pub record Tested (n : ℕ) (w reps : List ℕ) (r : Bool) : Type 0 where
   pub is : (c : ℕ) → Holds c w → c < 2 ^ n → r ≡ isCodeword (n - dimension n reps) (generator n reps) c
+
+-- val holds the word's values at the representatives
+pub record Comparable (n s : ℕ) (d reps val e list : List ℕ) : Type 0 where
+  pub testable : Testable n s d reps e list
+  pub val-long : n ≤ length val
+
+pub record Compared (n s : ℕ) (d reps val : List ℕ) (r : Bool) : Type 0 where
+  pub is : (c a : ℕ) → Holds a d → c < 2 ^ n → a < 2 ^ n
+      → ((k : ℕ) → k < length reps → getD val (getD reps k 0) 0 ≡ valueOf n s c (getD reps k 0))
+      → r ≡ isCodeword (n - dimension n reps) (generator n reps) (c ⊕ a)

@@ -1,12 +1,13 @@
 use native.Mathlib.Omega.{arith}
--- `decoding::correct::correct` meets its contract: values, syndromes, rows, places, verdict.
+-- `decoding::correct::correct` meets its contract: values, syndromes, rows, places, verdict, and the changes added.
 use mathlib.Core.Path.{refl}
-use Rattle.decoding.proofs.Correcting.{computable, walkable, testable, solvable, searchable, stop-fits, f-small, few, corrected, corrected-clean}
+use Rattle.decoding.proofs.Correcting.{computable, walkable, comparable, solvable, searchable, stop-fits, f-small, few, corrected, corrected-clean}
 use borrow.Author.Needs.{needs}
 use Rattle.decoding.proofs.correct.correct.Statement.{statement}
 use Rattle.decoding.proofs.correct.correct.Tie as tie
 use Rattle.decoding.proofs.correct.correct.Reads as reads
 use Rattle.decoding.proofs.correct.correct.Lts as lts
+use Rattle.binary.proofs.bits.add_where.Reads as add-where-reads
 use Rattle.decoding.proofs.correct.change_marked.Reads as change-marked-reads
 use Rattle.decoding.proofs.correct.verdict.Reads as verdict-reads
 use Rattle.masks.proofs.factor.degree.Reads as degree-reads
@@ -15,7 +16,7 @@ use Rattle.syndrome.proofs.cosets.values.Reads as values-reads
 use Rattle.syndrome.proofs.series.syndromes.Reads as syndromes-reads
 
 values-requires : tie.Need-values-requires
-values-requires c κs = computable (c .before .before .before .before .before .before .before .before .before .before .before .before .before .before .before .before .before .pre)
+values-requires c κs = computable (c .before .before .before .before .before .before .before .before .before .before .before .before .before .before .before .before .before .before .pre)
 
 same-length : tie.Need-same-length
 same-length c = search needs
@@ -30,42 +31,47 @@ returns : tie.Need-returns
 returns c = corrected-clean (c .before .before .before .before .before .values .ensures .1) (c .if1 .taken)
 
 syndromes-requires : tie.Need-syndromes-requires
-syndromes-requires c κs = let p = c .before .before .before .before .before .before .before .before .before .before .before .before .before .before .before .before .before .before .before .before .before .before .before .before .before .pre in (walkable p (omega (arith, c .before .before .before .before .before .before .before .values .kept .1 .1 .1 .1 .1 .1 .1 .0)), omega (arith, p .room .b-long))
+syndromes-requires c κs = let p = c .before .before .before .before .before .before .before .before .before .before .before .before .before .before .before .before .before .before .before .before .before .before .before .before .before .before .pre in (walkable p (omega (arith, c .before .before .before .before .before .before .before .values .kept .1 .1 .1 .1 .1 .1 .1 .0)), omega (arith, p .room .b-long))
 
 degree-requires : tie.Need-degree-requires
-degree-requires c κs = omega (arith, f-small (c .before .before .before .before .before .before .before .before .before .before .before .before .before .before .before .before .before .before .before .before .before .before .before .before .before .before .before .before .pre))
+degree-requires c κs = omega (arith, f-small (c .before .before .before .before .before .before .before .before .before .before .before .before .before .before .before .before .before .before .before .before .before .before .before .before .before .before .before .before .before .pre))
 
 mul-euclid : tie.Need-mul-euclid
-mul-euclid c = let p = c .before .before .before .before .before .before .before .before .before .before .before .before .before .before .before .before .before .before .before .before .before .before .before .before .before .before .before .before .before .before .before .before .before .pre in omega (arith, stop-fits (p .given) (c .before .before .before .before .degree .ensures), few p)
+mul-euclid c = let p = c .before .before .before .before .before .before .before .before .before .before .before .before .before .before .before .before .before .before .before .before .before .before .before .before .before .before .before .before .before .before .before .before .before .before .pre in omega (arith, stop-fits (p .given) (c .before .before .before .before .degree .ensures), few p)
 
 sub-euclid : tie.Need-sub-euclid
-sub-euclid c = omega (arith, stop-fits (c .before .before .before .before .before .before .before .before .before .before .before .before .before .before .before .before .before .before .before .before .before .before .before .before .before .before .before .before .before .before .before .before .before .before .pre .given) (c .before .before .before .before .before .degree .ensures))
+sub-euclid c = omega (arith, stop-fits (c .before .before .before .before .before .before .before .before .before .before .before .before .before .before .before .before .before .before .before .before .before .before .before .before .before .before .before .before .before .before .before .before .before .before .before .pre .given) (c .before .before .before .before .before .degree .ensures))
 
 euclid-requires : tie.Need-euclid-requires
-euclid-requires c κs = solvable (c .before .before .before .before .before .before .before .before .before .before .before .before .before .before .before .before .before .before .before .before .before .before .before .before .before .before .before .before .before .before .before .before .before .before .pre) (c .before .before .before .before .before .degree .ensures) (c .before .before .before .before .before .before .before .before .before .before .before .before .before .before .before .before .values .ensures .0) (c .before .before .before .before .before .before .before .before .syndromes .ensures) (omega (arith, c .before .before .before .before .before .before .before .before .syndromes .kept .1 .1 .1 .0))
+euclid-requires c κs = solvable (c .before .before .before .before .before .before .before .before .before .before .before .before .before .before .before .before .before .before .before .before .before .before .before .before .before .before .before .before .before .before .before .before .before .before .before .pre) (c .before .before .before .before .before .degree .ensures) (c .before .before .before .before .before .before .before .before .before .before .before .before .before .before .before .before .values .ensures .0) (c .before .before .before .before .before .before .before .before .syndromes .ensures) (omega (arith, c .before .before .before .before .before .before .before .before .syndromes .kept .1 .1 .1 .0))
 
 change-marked-requires : tie.Need-change-marked-requires
-change-marked-requires c κs = searchable (c .before .before .before .before .before .before .before .before .before .before .before .before .before .before .before .before .before .before .before .before .before .before .before .before .before .before .before .before .before .before .before .before .before .before .before .before .before .before .before .before .before .before .before .before .before .before .before .before .before .before .pre) (c .before .before .before .before .before .before .before .before .before .before .before .before .before .before .before .before .before .before .before .before .before .degree .ensures) (c .before .before .before .before .before .before .before .before .before .before .before .before .before .before .before .euclid .ensures)
+change-marked-requires c κs = searchable (c .before .before .before .before .before .before .before .before .before .before .before .before .before .before .before .before .before .before .before .before .before .before .before .before .before .before .before .before .before .before .before .before .before .before .before .before .before .before .before .before .before .before .before .before .before .before .before .before .before .before .before .pre) (c .before .before .before .before .before .before .before .before .before .before .before .before .before .before .before .before .before .before .before .before .before .degree .ensures) (c .before .before .before .before .before .before .before .before .before .before .before .before .before .before .before .euclid .ensures)
     (omega (arith, c .before .before .before .before .before .before .before .before .before .before .before .before .before .before .before .euclid .kept .1 .1 .1 .0)) (omega (arith, c .before .before .before .before .before .before .before .before .before .before .before .before .before .before .before .euclid .kept .1 .1 .1 .1 .0))
 
 verdict-requires : tie.Need-verdict-requires
-verdict-requires c κs = testable (c .before .before .before .before .before .before .before .before .before .before .before .before .before .before .before .before .before .before .before .before .before .before .before .before .before .before .before .before .before .before .before .before .before .before .before .before .before .before .before .before .before .before .before .before .before .before .before .before .before .before .before .before .before .before .before .before .before .before .before .before .before .before .before .pre) (c .before .before .before .before .before .before .before .before .before .before .before .before .change-marked .ensures)
-    (omega (arith, c .before .before .before .before .before .before .before .before .before .before .before .before .change-marked .kept .1 .1 .1 .1 .1 .1 .1 .1 .1 .1 .1 .1 .1 .1 .0)) (omega (arith, c .before .before .before .before .before .before .before .before .before .before .before .before .before .before .before .before .before .before .before .before .before .before .before .before .before .before .before .before .before .before .before .before .before .before .before .before .before .before .before .before .before .before .before .before .before .values .kept .1 .1 .1 .1 .1 .1 .0))
+verdict-requires c κs = comparable (c .before .before .before .before .before .before .before .before .before .before .before .before .before .before .before .before .before .before .before .before .before .before .before .before .before .before .before .before .before .before .before .before .before .before .before .before .before .before .before .before .before .before .before .before .before .before .before .before .before .before .before .before .before .before .before .before .before .before .before .before .before .before .before .before .before .pre) (c .before .before .before .before .before .before .before .before .before .before .before .before .before .change-marked .ensures)
+    (omega (arith, c .before .before .before .before .before .before .before .before .before .before .before .before .before .change-marked .kept .1 .1 .1 .1 .1 .1 .1 .1 .1 .1 .1 .1 .1 .1 .0)) (omega (arith, c .before .before .before .before .before .before .before .before .before .before .before .before .before .before .before .before .before .before .before .before .before .before .before .before .before .before .before .before .before .before .before .before .before .before .before .before .before .before .before .before .before .before .before .before .before .before .values .kept .1 .1 .1 .1 .1 .1 .0))
+    (omega (arith, c .before .before .before .before .before .before .before .before .before .before .before .before .before .before .before .before .before .before .before .before .before .before .before .before .before .before .before .before .before .before .before .before .before .before .before .before .before .before .before .before .before .before .before .before .before .before .values .kept .1 .1 .1 .1 .1 .1 .1 .0))
+
+add-where-requires : tie.Need-add-where-requires
+add-where-requires c κs = let p = c .before .before .before .before .before .before .before .before .before .before .before .before .before .before .before .before .before .before .before .before .before .before .before .before .before .before .before .before .before .before .before .before .before .before .before .before .before .before .before .before .before .before .before .before .before .before .before .before .before .before .before .before .before .before .before .before .before .before .before .before .before .before .before .before .before .before .before .before .before .before .pre in
+    (omega (arith, p .held .long), omega (arith, p .room .d-long, c .before .before .before .before .before .before .before .before .before .before .before .before .before .before .before .before .before .before .change-marked .kept .1 .1 .1 .1 .1 .1 .1 .1 .1 .1 .1 .1 .1 .1 .0))
 
 same-length-4 : tie.Need-same-length-4
-same-length-4 c = omega (arith, c .before .before .before .before .before .before .before .before .before .before .before .before .before .before .before .before .before .before .before .before .before .before .before .before .before .before .before .before .before .before .before .before .before .before .before .before .before .before .before .before .before .before .before .before .before .before .before .before .values .kept .1 .1 .1 .1 .1 .1 .0, c .before .before .verdict .kept .1 .1 .1 .1 .1 .1 .1 .0)
+same-length-4 c = omega (arith, c .before .before .before .before .before .before .before .before .before .before .before .before .before .before .before .before .before .before .before .before .before .before .before .before .before .before .before .before .before .before .before .before .before .before .before .before .before .before .before .before .before .before .before .before .before .before .before .before .before .before .before .before .before .before .values .kept .1 .1 .1 .1 .1 .1 .0, c .before .before .before .before .before .before .before .verdict .kept .1 .1 .1 .1 .1 .1 .1 .1 .0)
 
 same-length-5 : tie.Need-same-length-5
-same-length-5 c = omega (arith, c .before .before .before .before .before .before .before .before .before .before .before .before .before .before .before .before .before .before .before .before .before .before .before .before .before .before .before .before .before .before .before .before .before .before .before .before .before .before .before .before .before .before .before .before .before .before .before .before .values .kept .1 .1 .1 .1 .1 .1 .1 .0)
+same-length-5 c = omega (arith, c .before .before .before .before .before .before .before .before .before .before .before .before .before .before .before .before .before .before .before .before .before .before .before .before .before .before .before .before .before .before .before .before .before .before .before .before .before .before .before .before .before .before .before .before .before .before .before .before .before .before .before .before .before .before .values .kept .1 .1 .1 .1 .1 .1 .1 .0)
 
 same-length-6 : tie.Need-same-length-6
-same-length-6 c = search needs
+same-length-6 c = omega (arith, c .before .before .before .before .before .before .before .before .before .before .before .before .before .before .before .before .before .before .before .before .before .before .before .before .before .before .before .before .before .before .before .before .before .before .before .before .before .euclid .kept .1 .0)
 
 same-length-7 : tie.Need-same-length-7
-same-length-7 c = omega (arith, c .before .before .before .before .before .before .before .before .before .before .before .before .before .before .before .before .before .before .before .before .before .before .before .before .before .before .before .before .before .before .before .before .before .before .before .before .before .before .before .before .syndromes .kept .1 .1 .1 .0, c .before .before .before .before .before .before .before .before .before .before .before .before .before .before .before .before .before .before .before .before .before .before .before .before .before .before .before .before .before .before .before .euclid .kept .1 .1 .0)
+same-length-7 c = omega (arith, c .before .before .before .before .before .before .before .before .before .before .before .before .before .before .before .before .before .before .before .before .before .before .before .before .before .before .before .before .before .before .before .before .before .before .before .before .before .before .before .before .before .before .before .before .before .before .syndromes .kept .1 .1 .1 .0, c .before .before .before .before .before .before .before .before .before .before .before .before .before .before .before .before .before .before .before .before .before .before .before .before .before .before .before .before .before .before .before .before .before .before .before .before .before .euclid .kept .1 .1 .0)
 
 same-length-8 : tie.Need-same-length-8
-same-length-8 c = search needs
+same-length-8 c = omega (arith, c .before .before .before .before .before .before .before .before .before .before .before .before .before .before .before .before .before .before .before .before .before .before .before .before .before .before .before .before .before .before .before .before .before .before .before .before .before .euclid .kept .1 .1 .1 .0)
 
 same-length-9 : tie.Need-same-length-9
 same-length-9 c = search needs
@@ -85,10 +91,13 @@ same-length-13 c = search needs
 same-length-14 : tie.Need-same-length-14
 same-length-14 c = search needs
 
+same-length-15 : tie.Need-same-length-15
+same-length-15 c = search needs
+
 returns-2 : tie.Need-returns-2
-returns-2 c = let p = c .before .before .before .before .before .before .before .before .before .before .before .before .before .before .before .before .before .before .before .before .before .before .before .before .before .before .before .before .before .before .before .before .before .before .before .before .before .before .before .before .before .before .before .before .before .before .before .before .before .before .before .before .before .before .before .before .before .before .before .before .before .before .before .before .before .before .pre in
-    corrected (p .given) (c .before .before .before .before .before .before .before .before .before .before .before .before .before .before .before .before .before .before .before .before .before .before .before .before .before .before .before .before .before .before .before .before .before .before .before .before .before .before .before .before .before .before .before .before .before .before .before .before .values .ensures .0) (c .before .before .before .before .before .before .before .before .before .before .before .before .before .before .before .before .before .before .before .before .before .before .before .before .before .before .before .before .before .before .before .before .before .before .before .before .before .before .before .before .syndromes .ensures) (p .room .b-zero) (c .before .before .before .before .before .before .before .before .before .before .before .before .before .before .before .before .before .before .before .before .before .before .before .before .before .before .before .before .before .before .before .before .before .before .before .before .before .degree .ensures) refl
-    (c .before .before .before .before .before .before .before .before .before .before .before .before .before .before .before .before .before .before .before .before .before .before .before .before .before .before .before .before .before .before .before .euclid .ensures) (c .before .before .before .before .before .before .before .before .before .before .before .before .before .before .before .change-marked .ensures) (c .before .before .verdict .ensures)
+returns-2 c = let p = c .before .before .before .before .before .before .before .before .before .before .before .before .before .before .before .before .before .before .before .before .before .before .before .before .before .before .before .before .before .before .before .before .before .before .before .before .before .before .before .before .before .before .before .before .before .before .before .before .before .before .before .before .before .before .before .before .before .before .before .before .before .before .before .before .before .before .before .before .before .before .before .before .before .pre in
+    corrected (p .given) (p .room .d-zero) (c .before .before .add-where .ensures) (c .before .before .before .before .before .before .before .before .before .before .before .before .before .before .before .before .before .before .before .before .before .before .before .before .before .before .before .before .before .before .before .before .before .before .before .before .before .before .before .before .before .before .before .before .before .before .before .before .before .before .before .before .before .before .values .ensures .0) (c .before .before .before .before .before .before .before .before .before .before .before .before .before .before .before .before .before .before .before .before .before .before .before .before .before .before .before .before .before .before .before .before .before .before .before .before .before .before .before .before .before .before .before .before .before .before .syndromes .ensures) (p .room .b-zero) (c .before .before .before .before .before .before .before .before .before .before .before .before .before .before .before .before .before .before .before .before .before .before .before .before .before .before .before .before .before .before .before .before .before .before .before .before .before .before .before .before .before .before .before .degree .ensures) refl
+    (c .before .before .before .before .before .before .before .before .before .before .before .before .before .before .before .before .before .before .before .before .before .before .before .before .before .before .before .before .before .before .before .before .before .before .before .before .before .euclid .ensures) (c .before .before .before .before .before .before .before .before .before .before .before .before .before .before .before .before .before .before .before .before .before .change-marked .ensures) (c .before .before .before .before .before .before .before .verdict .ensures)
 
 pub correct-spec : {M : Type 1} → statement M
 correct-spec =
@@ -106,6 +115,7 @@ correct-spec =
     euclid-requires
     change-marked-requires
     verdict-requires
+    add-where-requires
     same-length-4
     same-length-5
     same-length-6
@@ -117,4 +127,5 @@ correct-spec =
     same-length-12
     same-length-13
     same-length-14
+    same-length-15
     returns-2)

@@ -6,26 +6,26 @@ use Rattle.decoding.proofs.correct.verdict.Statement.{statement}
 use Rattle.decoding.proofs.correct.verdict.Tie as tie
 use Rattle.decoding.proofs.correct.verdict.Reads as reads
 use Rattle.decoding.proofs.correct.verdict.Lts as lts
-use Rattle.syndrome.proofs.test.is_codeword.Reads as is-codeword-reads
+use Rattle.syndrome.proofs.test.agrees.Reads as agrees-reads
 
 returns : tie.Need-returns
 returns c = passed-many (c .if1 .taken)
 
-is-codeword-requires : tie.Need-is-codeword-requires
-is-codeword-requires c κs = c .before .before .before .before .before .before .pre (c .before .if1 .left)
+agrees-requires : tie.Need-agrees-requires
+agrees-requires c κs = c .before .before .before .before .before .before .before .pre (c .before .if1 .left)
 
 same-length : tie.Need-same-length
 same-length c = search needs
 
 returns-2 : tie.Need-returns-2
-returns-2 c = passed-yes (c .before .before .before .before .before .if1 .left) (c .before .before .before .is-codeword .ensures) (c .if2 .taken)
+returns-2 c = passed-yes (c .before .before .before .before .before .if1 .left) (c .before .before .before .agrees .ensures) (c .if2 .taken)
 
 same-length-2 : tie.Need-same-length-2
 same-length-2 c = search needs
 
 returns-3 : tie.Need-returns-3
-returns-3 c = passed-no (c .before .before .before .before .before .if1 .left) (c .before .before .before .is-codeword .ensures) (c .if2 .left)
+returns-3 c = passed-no (c .before .before .before .before .before .if1 .left) (c .before .before .before .agrees .ensures) (c .if2 .left)
 
 pub verdict-spec : {M : Type 1} → statement M
 verdict-spec =
-    tie.close (tie.spec returns is-codeword-requires same-length returns-2 same-length-2 returns-3)
+    tie.close (tie.spec returns agrees-requires same-length returns-2 same-length-2 returns-3)

@@ -8,7 +8,7 @@
 # A call hands over one word, and its answer is 'changed count buffer' or 'refused number buffer'; or it asks for all words of a
 # sheet's length, and the answer counts the replies and sums them up with the buffers. What is right is found with no equation:
 # every error pattern of at most t places is tried, or every codeword; where both are too many a word is made from a codeword, so
-# that the answer is known. Sheets are judged as in entry_answers.py.
+# that the answer is known. Sheets are judged as in entry_answers.py. vectors.py adds words that other programs decoded.
 import sys
 from functools import lru_cache
 from itertools import combinations
@@ -17,6 +17,7 @@ from math import comb, gcd
 sys.dont_write_bytecode = True
 from entry_answers import (SHEETS, answer, bits, certificate, common_factor, coset, encoded, generator, in_bytes, known, parts,
                            period, remainder, series, sheet)
+from vectors import decode_calls
 
 LENGTHS = [n for n in range(3, 128, 2) if len(coset(1, n)) <= 12]
 MOST_PATTERNS, MOST_MESSAGE_BITS = 50000, 12
@@ -348,6 +349,8 @@ def calls():
         told = answer(s).split()
         if told[0] == 'refused':
             yield s, refused_calls(told[1])
+    for s, *call in decode_calls():
+        yield s, [call]
 
 
 def main():

@@ -7,8 +7,11 @@
 #
 # For each sheet there are judge's answer, 'accepted n k s working d t terms' or 'refused number', the listing that card gives,
 # and what encode and read reply and leave in the buffer. Polynomials over two elements are sets of exponents, words numbers.
+# vectors.py adds calls whose answers other programs made.
 import sys
 from math import gcd
+
+sys.dont_write_bytecode = True
 
 
 def bits(mask):
@@ -297,13 +300,21 @@ def calls(sheet):
 SHEETS = list(known()) + list(drawn(400))
 
 
-def main():
+def all_calls():
     for s in SHEETS:
-        for call, given, room, told in calls(s):
-            if sys.argv[1] == 'calls':
-                sys.stdout.buffer.write(bytes([call, len(s), len(given), room] + s) + given)
-            else:
-                print(told)
+        for call in calls(s):
+            yield s, *call
+    # here and not above, as it takes its functions from this file
+    from vectors import entry_calls
+    yield from entry_calls()
+
+
+def main():
+    for s, call, given, room, told in all_calls():
+        if sys.argv[1] == 'calls':
+            sys.stdout.buffer.write(bytes([call, len(s), len(given), room] + s) + given)
+        else:
+            print(told)
 
 
 if __name__ == '__main__':

@@ -1,0 +1,208 @@
+#!/usr/bin/env python3
+# Calls of the entries whose answers were made elsewhere: tools/entry_answers.py and tools/decode_answers.py add them to the calls
+# of the programs crates/entry_answers and crates/decode_answers.
+#
+# tools/vectors/itpp.txt has BCH codes by IT++, tools/vectors/guava.txt cyclic codes by GAP and GUAVA; tools/vectors/make makes
+# both. What is done here is to find the sheet of each code: D from the generator, and a certificate. What documents 001 to 003
+# say of a code, its k and its d, is held to what GUAVA says of it.
+#
+#     tools/vectors.py > docs/VECTORS.md    the page that says what there is
+import os
+import sys
+from math import gcd
+
+sys.dont_write_bytecode = True
+from entry_answers import answer, certificate, coset, generator, in_bytes, listing, sheet
+
+FOLDER = os.path.join(os.path.dirname(os.path.abspath(__file__)), 'vectors')
+
+
+class Code:
+    def __init__(self, kind, numbers):
+        self.kind, self.numbers = kind, numbers
+        self.words, self.received = [], []
+        self.g = self.sheet = None
+
+
+def stored(name):
+    # the codes of a file, each with its codewords, and its received words with the decoder's own, or None
+    codes = []
+    with open(os.path.join(FOLDER, name)) as file:
+        for line in file:
+            kind, *rest = line.split()
+            if kind in ('bch', 'cyclic'):
+                codes.append(Code(kind, [int(x) for x in rest if x != ':']))
+            elif kind == 'word':
+                codes[-1].words.append(int(rest[1], 16))
+                codes[-1].g = codes[-1].g or codes[-1].words[0]
+            elif kind == 'generator':
+                codes[-1].g = int(rest[0], 16)
+            elif kind == 'codeword':
+                codes[-1].words.append(int(rest[0], 16))
+            elif kind in ('decoded', 'nearest'):
+                codes[-1].received.append((int(rest[0], 16), int(rest[1], 16)))
+            elif kind == 'failed':
+                codes[-1].received.append((int(rest[0], 16), None))
+    return codes
+
+
+def leaders(n, members):
+    return sorted({min(coset(i % n, n)) for i in members})
+
+
+def zeros_of(n, members):
+    return set().union(*[coset(i % n, n) for i in members])
+
+
+# Published, in the order of guava.g: the length, what D holds, k, d, a certificate, and the distance that it proves. Of Tables II
+# to IV, and of f of degree 4, the bound is what is published, and the code's own d is None; k is None where the paper has none.
+PUBLISHED = (
+    (7, (1,), 4, 3, (1, 1, 3, 1, 2), 3), (7, (0, 1), 3, 4, (0, 1, 3, 1, 3), 4), (15, (1, 3), 7, 5, (1, 1, 3, 1, 4), 5),
+    (15, (1, 3, 5), 5, 7, (1, 1, 3, 1, 6), 7), (23, (1,), 12, 7, (1, 1, 3, 1, 4), 5), (31, (1, 3), 21, 5, (1, 1, 3, 1, 4), 5),
+    (31, (1, 5), 21, 5, (8, 1, 3, 1, 3), 4), (17, (1,), 9, 5, (-4, 1, 7, 3, 9), 5), (17, (3, 5, 11), 9, 5, (-11, 2, 15, 7, 12), 5),
+    (45, (-5, -3, 3, 5), 31, 4, (-9, 2, 15, 4, 10), 4), (65, (1,), 53, None, (-4, 1, 7, 3, 9), 5),
+    (65, (1, 5), 41, None, (-6, 1, 7, 2, 13), 7), (65, (1, 5, 7), 29, None, (-10, 1, 7, 3, 21), 11),
+    (65, (3, 5, 11, 13), None, None, (-17, 2, 15, 4, 18), 7), (127, (-3, 0, 1, 7), None, None, (-4, 1, 11, 6, 13), 5),
+    (127, (-3, 0, 1, 7, 9), None, None, (-4, 1, 11, 6, 15), 6), (127, (-3, 0, 1, 7, 9, 11), None, None, (-4, 1, 11, 6, 18), 7),
+    (73, (-3, 1, 3, 9), None, None, (-6, 1, 19, 11, 20), 6), (21, (1, 3, 7, 9), 7, 8, (1, 1, 3, 1, 4), 5))
+
+
+def bch_sheet(code):
+    # IT++ has primitive polynomials of its own: its root is a power of α, and that power is the certificate's start and step
+    n, k, t = code.numbers
+    for m in leaders(n, range(1, n)):
+        members = [m * j for j in range(1, 2 * t + 1)]
+        if gcd(m, n) == 1 and len(zeros_of(n, members)) == n - k and generator(n, zeros_of(n, members)) == code.g:
+            return sheet(n, leaders(n, members), certificate(m, m, 3, 1, 2 * t))
+    sys.exit('no root for the code %d %d %d' % (n, k, t))
+
+
+def cyclic_sheet(code, published):
+    n, k, d, *representatives = code.numbers
+    length, members, its_k, its_d, (b, z, f, h, terms), proved = published
+    zeros = zeros_of(n, representatives)
+    assert (length, leaders(n, members)) == (n, representatives) and generator(n, zeros) == code.g
+    assert its_k in (None, k) and len(zeros) == n - k and (its_d or 0) == d and (d == 0 or proved <= d)
+    made = sheet(n, representatives, certificate(b % n, z, f, h, terms))
+    assert int(answer(made).split()[5]) == proved
+    return made
+
+
+def codes():
+    for code in stored('itpp.txt'):
+        code.sheet = bch_sheet(code)
+        yield code
+    found = stored('guava.txt')
+    assert len(found) == len(PUBLISHED)
+    for code, published in zip(found, PUBLISHED):
+        code.sheet = cyclic_sheet(code, published)
+        yield code
+
+
+def numbers_of(code):
+    n, k, t = (int(answer(code.sheet).split()[i]) for i in (1, 2, 6))
+    assert n == code.numbers[0] and k == code.numbers[1]
+    return n, k, t
+
+
+def refused():
+    # document 002's code (119, 68, 3), for which s is 24; then each byte of a few sheets changed, by one and in its highest bit
+    yield sheet(119, leaders(119, (1, 11, 51)), certificate(1, 1, 3, 1, 2)), '3'
+    for base in (sheet(17, [1], certificate(13, 1, 7, 3, 9)), sheet(15, [1, 3], certificate(1, 1, 3, 1, 4)),
+                 sheet(63, [1, 3], certificate(1, 1, 3, 1, 2), certificate(1, 1, 3, 1, 4))):
+        for place in range(len(base)):
+            for value in (base[place] + 1) % 256, base[place] ^ 128:
+                changed = base[:place] + [value] + base[place + 1:]
+                told = answer(changed).split()
+                if told[0] == 'refused':
+                    yield changed, told[1]
+
+
+# The calls as entry_answers.py and decode_answers.py have them: a sheet, and the kind of call, the input, the buffer's length and
+# what is to be answered.
+def entry_calls():
+    for code in codes():
+        n, k, _ = numbers_of(code)
+        yield code.sheet, 0, b'', 0, '\n'.join([answer(code.sheet)] + listing(code.sheet))
+        for word in code.words:
+            message = word >> n - k
+            yield code.sheet, 1, in_bytes(message, k), (n + 7) // 8, 'encode 0 ' + in_bytes(word, n).hex()
+            yield code.sheet, 2, in_bytes(word, n), (k + 7) // 8, 'read 0 ' + in_bytes(message, k).hex()
+        for word, right in code.received:
+            if right is not None and word != right:
+                yield code.sheet, 2, in_bytes(word, n), (k + 7) // 8, 'read 14 ' + 'aa' * ((k + 7) // 8)
+    for changed, number in refused():
+        yield changed, 0, b'', 0, 'refused %s\nrefused %s' % (number, number)
+        yield changed, 1, bytes(2), 2, 'encode %s aaaa' % number
+        yield changed, 2, bytes(2), 2, 'read %s aaaa' % number
+
+
+def decode_calls():
+    for code in codes():
+        n, _, t = numbers_of(code)
+        for word, right in code.received:
+            size = (n + 7) // 8
+            if right is not None and (word ^ right).bit_count() <= t:
+                told = 'changed %d %s' % ((word ^ right).bit_count(), in_bytes(right, n).hex())
+            else:
+                # IT++ failed, or GUAVA's nearest codeword is further than t
+                assert right is None or code.kind == 'cyclic'
+                told = 'refused 13 ' + 'aa' * size
+            yield code.sheet, 0, in_bytes(word, n), size, told
+    for changed, number in refused():
+        yield changed, 0, bytes(2), 2, 'refused %s aaaa' % number
+
+
+PAGE = '''# Codes and words of other programs
+
+Two programs in the gate, `entry_answers` and `decode_answers`, are held to answers that were made elsewhere. `tools/vectors/make`
+makes them anew, and installs what it needs:
+
+- tools/vectors/itpp.txt: %(itpp)s;
+- tools/vectors/guava.txt: %(guava)s.
+
+`tools/vectors.py` finds the sheet of each code and turns the files into %(entries)d calls of judge, encode and read and %(decodes)d of
+decode, which stand at the end of the two programs' stored input and output. It has also written this page.
+
+On a code of GUAVA's a word has 0 to 5 wrong places, on one of IT++'s 0 to t + 2, two words for each number.
+
+What each is held to:
+
+- IT++: generator, k, codewords and decoded words of BCH codes. Where its decoder says that it failed, decode must answer 13. For
+  length 127 it has another primitive polynomial than document 01: its root is our α^11, so start and step are 11.
+- GAP and GUAVA: generator (by GAP's own field and minimal polynomials) and k; the minimum distance and the nearest codeword
+  of received words where it has them in seconds. A nearest codeword further than t places must be answered by 13.
+- What is published: documents 01 and 003 (7, 4, 3), (7, 3, 4), (15, 7, 5); document 001's (17, 9, 5) and (45, 31, 4), its Tables
+  II to IV and the bound with f of degree 4; document 002's (21, 7, 8), of which the certificate here proves 5, and
+  (65, 41, 8), of which it proves 7. Document 002's (119, 68, 3) has s = 24: refusal 3. Codes without decoded words below are
+  decoded in tools/decode_answers.py, by its search.
+- Sheets damaged in every byte: each draws the same refusal from every entry.
+
+| made by | n | k | d proved | d of GUAVA | t | b z f h L | codewords | decoded | refused with 13 |
+|---|---|---|---|---|---|---|---|---|---|
+'''
+
+
+def first_line(name):
+    with open(os.path.join(FOLDER, name)) as file:
+        return file.readline().split(' with ', 1)[1].strip()
+
+
+def row(code):
+    n, k, t = numbers_of(code)
+    b, z, f, more, h, _, terms, most = code.sheet[-8:]
+    near = sum(right is not None and (word ^ right).bit_count() <= t for word, right in code.received)
+    its_d = code.numbers[2] or '' if code.kind == 'cyclic' else ''
+    return (('IT++' if code.kind == 'bch' else 'GUAVA', n, k, answer(code.sheet).split()[5], its_d, t,
+             '%d %d %d %d %d' % (b, z, f + 256 * more, h, terms + 256 * most), len(code.words), near, len(code.received) - near))
+
+
+def main():
+    print(PAGE % dict(itpp=first_line('itpp.txt'), guava=first_line('guava.txt'), entries=len(list(entry_calls())),
+                      decodes=len(list(decode_calls()))), end='')
+    for code in codes():
+        print('| %s |' % ' | '.join(map(str, row(code))))
+
+
+if __name__ == '__main__':
+    main()

@@ -1,10 +1,10 @@
--- What the tables of a degree hold: the powers of ω, as many as there is room for, and the logarithms of all elements.
+-- What the tables of a degree hold: the powers of ω for four rounds, and the logarithms of all elements.
 --
 --   Room s e g         e and g are long enough
 --   Powers s n e       e holds the first n powers
 --   Powered s e        e holds the powers of four rounds
 --   Logs s n g g′      g′ holds the logarithms of the first n powers, and else what g held
---   Tables s e g       e and g hold them, and e has room for four rounds, so that sums of four logarithms need no reduction
+--   Tables s e g       e and g hold them, e for four rounds, so that sums of four logarithms need no reduction
 --   Filled s g e′ g′   what filling leaves: the tables, and of the old g what lies beyond them
 use mathlib.Core.Path.{_≡_}
 use mathlib.Core.Logic.{_≢_}
@@ -36,7 +36,7 @@ pub record Tables (s : ℕ) (e g : List ℕ) : Type 0 where
   pub cap : 2 ^ s ≤ 4096
   pub e-long : 4 * (2 ^ s - 1) ≤ length e
   pub g-long : 2 ^ s ≤ length g
-  pub e-at : (k : ℕ) → k < length e → getD e k 0 ≡ fieldPower s ω k
+  pub e-at : (k : ℕ) → k < 4 * (2 ^ s - 1) → getD e k 0 ≡ fieldPower s ω k
   pub g-at : (a : ℕ) → a < 2 ^ s → getD g a 0 ≡ logarithm s a
 
 pub record Filled (s : ℕ) (g e′ g′ : List ℕ) : Type 0 where

@@ -1,19 +1,22 @@
--- `tables::fill::fill` meets its contract: each power past the first round is the one a round before it.
 use borrow.Author.Needs.{needs}
 use native.Mathlib.Omega.{arith}
-use mathlib.Core.Path.{_≡_, refl, _∙_}
-use Prim.Native.Nat.{ℕ, _-_, _^_, _≤_}
+-- `tables::fill::fill` meets its contract: each power past the first round is the one a round before it.
+use mathlib.Core.Path.{_≡_, refl, sym, ap, _∙_}
+use Prim.Native.Nat.{ℕ, _-_, _*_, _^_, _≤_}
 use lib.ListN.{length, length-set}
 use Rattle.field.specs.Field.{Degree}
-use Rattle.tables.specs.Tables.{Powers}
 use Rattle.field.proofs.Primitive.{Degree-bounds}
+use Rattle.tables.specs.Tables.{Powers}
 use Rattle.tables.proofs.Filling.{powers-round, filled, room-kept}
 use Rattle.tables.proofs.fill.fill.Statement.{statement}
 use Rattle.tables.proofs.fill.fill.Tie as tie
+use Rattle.tables.proofs.fill.fill.Reads as reads
+use Rattle.tables.proofs.fill.fill.Lts as lts
+use Rattle.field.proofs.arithmetic.order.Reads as order-reads
+use Rattle.tables.proofs.fill.once.Reads as once-reads
 
 abbrev Inv-loop : tie.InvT-loop
-Inv-loop s e₀ g n end i₀ e i =
-    Degree s × (n ≡ 2 ^ s - 1) × (end ≡ length e₀) × (length e ≡ length e₀) × (n ≤ i) × (i ≤ end) × Powers s i e × (4 ≤ 2 ^ s)
+Inv-loop s e₀ g n end i₀ e i = Degree s × (n ≡ 2 ^ s - 1) × (end ≡ 4 * n) × (4 * (2 ^ s - 1) ≤ length e₀) × (length e ≡ length e₀) × (n ≤ i) × (i ≤ end) × Powers s i e × (4 ≤ 2 ^ s) × (2 ^ s ≤ 4096)
 
 abbrev μ-loop : tie.MeasureT-loop
 μ-loop s e₀ g n end i₀ e i = end - i
@@ -25,78 +28,72 @@ once-requires : tie.Need-once-requires Inv-loop μ-loop
 once-requires c κs = (c .before .before .before .before .before .pre, c .before .before .order .ensures)
 
 cast-g : tie.Need-cast-g Inv-loop μ-loop
-cast-g c =
-    let b = Degree-bounds (c .before .before .before .before .before .before .before .before .before .before .pre .degree) in
-    omega (arith, b .1, c .before .before .before .before .before .before .before .order .ensures)
+cast-g c = omega (arith, Degree-bounds (c .before .before .before .before .before .before .before .before .before .before .pre .degree) .1, c .before .before .before .before .before .before .before .order .ensures)
 
 slice-write-g : tie.Need-slice-write-g Inv-loop μ-loop
-slice-write-g c =
-    let p = c .before .before .before .before .before .before .before .before .before .before .pre in
-    let b = Degree-bounds (p .degree) in omega (arith, b .0, p .g-long, c .before .before .before .before .once .kept .1 .1 .1 .0)
+slice-write-g c = let p = c .before .before .before .before .before .before .before .before .before .before .pre in omega (arith, Degree-bounds (p .degree) .0, p .g-long, c .before .before .before .before .once .kept .1 .1 .1 .0)
+
+mul-end : tie.Need-mul-end Inv-loop μ-loop
+mul-end c = omega (arith, Degree-bounds (c .before .before .before .before .before .before .before .before .before .before .pre .degree) .1, c .before .before .before .before .before .before .before .order .ensures)
 
 loop-holds : tie.Need-loop-holds Inv-loop μ-loop
-loop-holds c =
-    let p = c .before .before .before .before .before .before .before .before .before .before .pre in let d = p .degree in
-    let b = Degree-bounds d in (
-      d,
-      c .before .before .before .before .before .before .before .order .ensures,
-      refl,
-      refl,
-      omega arith,
-      omega (
-        arith,
-        p .e-long,
-        c .before .before .before .before .before .before .before .order .ensures,
-        c .before .before .before .before .once .kept .1 .1 .0,
-      ),
-      c .before .before .before .before .once .ensures .0,
-      b .0,
-    )
+loop-holds c = let p = c .before .before .before .before .before .before .before .before .before .before .pre in let b = Degree-bounds (p .degree) in (
+  p .degree,
+  c .before .before .before .before .before .before .before .order .ensures,
+  refl,
+  omega (arith, p .e-long, c .before .before .before .before .once .kept .1 .1 .0),
+  refl,
+  omega arith,
+  omega (arith, c .before .before .before .before .before .before .before .order .ensures),
+  c .before .before .before .before .once .ensures .0,
+  b .0,
+  b .1,
+)
 
 sub-x : tie.Need-sub-x Inv-loop μ-loop
-sub-x c = search needs
+sub-x c = omega (arith, c .before .loop .inv .5)
 
 mul-x : tie.Need-mul-x Inv-loop μ-loop
-mul-x c = search needs
+mul-x c = let v = c .before .loop .inv in omega (arith, v .1, v .2, v .6, v .9)
 
 slice-read-x : tie.Need-slice-read-x Inv-loop μ-loop
-slice-read-x c = search needs
+slice-read-x c = let v = c .before .before .loop .inv in omega (arith, v .1, v .2, v .3, v .4, v .5, v .8)
 
 mul-e : tie.Need-mul-e Inv-loop μ-loop
-mul-e c = search needs
+mul-e c = let v = c .before .before .loop .inv in omega (arith, v .1, v .2, v .6, v .9)
 
 slice-write-e : tie.Need-slice-write-e Inv-loop μ-loop
-slice-write-e c = search needs
+slice-write-e c = let v = c .before .before .loop .inv in omega (arith, v .1, v .2, v .3, v .4)
 
 add-i : tie.Need-add-i Inv-loop μ-loop
-add-i c = search needs
+add-i c = let v = c .before .before .loop .inv in omega (arith, v .1, v .2, v .9)
 
 loop-less : tie.Need-loop-less Inv-loop μ-loop
-loop-less c = search needs
+loop-less c = omega arith
 
 loop-again : tie.Need-loop-again Inv-loop μ-loop
 loop-again c = let v = c .before .before .loop .inv in (
   v .0,
   v .1,
   v .2,
-  simp length-set (v .3),
+  v .3,
+  simp length-set (v .4),
+  omega (arith, v .5),
   omega arith,
-  omega arith,
-  powers-round (v .0) (v .1) (v .4) (omega arith) (v .6),
-  v .7,
+  powers-round (v .0) (v .1) (v .5) (omega (arith, v .1, v .2, v .3, v .4)) (v .7),
+  v .8,
+  v .9,
 )
 
 same-length : tie.Need-same-length Inv-loop μ-loop
-same-length c = c .before .loop .inv .3 ∙ c .before .before .before .before .before .before .once .kept .1 .1 .0
+same-length c = c .before .loop .inv .4 ∙ c .before .before .before .before .before .before .once .kept .1 .1 .0
 
 same-length-2 : tie.Need-same-length-2 Inv-loop μ-loop
 same-length-2 c = simp length-set (c .before .before .before .before .before .before .once .kept .1 .1 .1 .0)
 
 returns : tie.Need-returns Inv-loop μ-loop
-returns c = let v = c .before .loop .inv in let o = c .before .before .before .before .before .before .once in
-    filled (room-kept (v .3 ∙ o .kept .1 .1 .0) (o .kept .1 .1 .1 .0)
-    (c .before .before .before .before .before .before .before .before .before .before .before .before .pre)) (v .1) (omega arith)
-    (v .6) (o .ensures .1)
+returns c = let v = c .before .loop .inv in
+    filled (room-kept (v .4 ∙ c .before .before .before .before .before .before .once .kept .1 .1 .0) (c .before .before .before .before .before .before .once .kept .1 .1 .1 .0) (c .before .before .before .before .before .before .before .before .before .before .before .before .pre)) (v .1) (omega (arith, v .1, v .2)) (v .7) (c .before .before .before .before .before .before .once .ensures .1)
 
 pub fill-spec : {M : Type 1} → statement M
 fill-spec =
@@ -108,6 +105,7 @@ fill-spec =
     once-requires
     cast-g
     slice-write-g
+    mul-end
     loop-holds
     sub-x
     mul-x

@@ -66,7 +66,7 @@ extern "C" {
  * library take for themselves is not counted. tools/stack measures the archive and writes these lines: docs/STACK.md. */
 #define DUNEFORK_ENCODE_STACK 836
 #define DUNEFORK_READ_STACK 852
-#define DUNEFORK_DECODE_STACK 71072
+#define DUNEFORK_DECODE_STACK 71376
 
 /* What a call returns where it refuses. The conditions are tried in this order; those of certificates (RANGE to TERM) for one
  * certificate after the other. examples/c/refusals.c draws each of them once, docs/SHEETS.md says what to do about it. */

@@ -1,7 +1,7 @@
 -- Numbers by their binary digits: masks of single digits, and sums of different powers of two.
 --
 --   coefficient-or, coefficient-and      of a union and a meet
---   pow-same, pow-other      the digits of a power of two
+--   pow-same, pow-other, digit-same, digit-other      the digits of a power of two, and of a digit times it
 --   below-pow                a number whose digits are 0 from m on is below 2^m
 --   put-same, put-other      a byte with digit p cleared and then set to x
 --   sum-at, sum-other, sum-lt      a sum of d i 2^(s i) for i below n, where s takes no value twice, has d i as its digit s i
@@ -69,12 +69,12 @@ clear-mask p q hp hq =
     eqb-true (coefficient q (255 - 2 ^ p)) (1 - coefficient q (2 ^ p))
     (every-at (cleared p) 8 (every-at (λ p. every (cleared p) (upTo 8)) 8 refl p hp) q hq)
 
-digit-same : (p x : ℕ) → x < 2 → coefficient p (x * 2 ^ p) ≡ x
+pub digit-same : (p x : ℕ) → x < 2 → coefficient p (x * 2 ^ p) ≡ x
 digit-same p =
     digit (λ x. coefficient p (x * 2 ^ p) ≡ x) (ap (coefficient p) (zero-mul (2 ^ p)) ∙ coefficient-zero p)
     (ap (coefficient p) (one-mul (2 ^ p)) ∙ pow-same p)
 
-digit-other : (p q x : ℕ) → q ≢ p → x < 2 → coefficient q (x * 2 ^ p) ≡ 0
+pub digit-other : (p q x : ℕ) → q ≢ p → x < 2 → coefficient q (x * 2 ^ p) ≡ 0
 digit-other p q x n =
     digit (λ x. coefficient q (x * 2 ^ p) ≡ 0) (ap (coefficient q) (zero-mul (2 ^ p)) ∙ coefficient-zero q)
     (ap (coefficient q) (one-mul (2 ^ p)) ∙ pow-other p q n) x

@@ -16,7 +16,7 @@ fn add(w: &mut [u8], at: usize, g: &[u8], m: usize)
 }
 
 // The same where the bit is 1.
-pub fn add_where(w: &mut [u8], at: usize, g: &[u8], m: usize, bit: usize)
+fn add_where(w: &mut [u8], at: usize, g: &[u8], m: usize, bit: usize)
     requires { ⌜ (at + m ≤ length (now w)) × (m ≤ length (now g)) ⌝ }
     ensures { λ _. ⌜ Summed at m bit (now (g .entry)) (now (w .entry)) (now (w .exit)) ⌝ }
 {

@@ -1,6 +1,6 @@
 -- The arrays as they are made.
 --
---   cleared, nothing    an array of 0 has no coefficients
+--   cleared      an array of 0 has no coefficients
 --   short-room, long-room      room for 63 terms, and for 1,023
 --   degree-of, terms-few       s is a degree of the table, and L at most 1,023
 --   small-tables, large-tables      room for the tables of a degree up to 8, and up to 12
@@ -9,7 +9,7 @@ use mathlib.Core.Logic.{_⊎_, inl, inr}
 use mathlib.Core.List.{List}
 use Prim.Native.Nat.{ℕ, _*_, _-_, _^_, _≤_, _<_}
 use native.Mathlib.Omega.{arith}
-use lib.ListN.{getD, replicate, length-replicate, getD-replicate, List·getD-eq-default}
+use lib.ListN.{length, getD, replicate, length-replicate, getD-replicate, List·getD-eq-default}
 use lib.Pow.{pow-mono}
 use Rattle.algebra.proofs.Poly.{le-or-lt}
 use Rattle.field.specs.Field.{Degree}
@@ -18,8 +18,6 @@ use Rattle.document.proofs.Theory.{degree}
 use Rattle.certificate.specs.declared.types.Certificate.{Certificate as CodeCertificate}
 use Rattle.certificate.specs.Rules.{certificateAs}
 use Rattle.distance.proofs.Rules.{in-range}
-use Rattle.cyclic.proofs.Places.{coefficient-zero}
-use Rattle.binary.specs.Bits.{Holds}
 use Rattle.poly.specs.Slice.{Short}
 use Rattle.decoding.specs.Correct.{Given, Room}
 
@@ -30,16 +28,12 @@ cleared m = record { at = λ i h. go i (le-or-lt m i) }
     go i (inl h) = List·getD-eq-default (replicate m 0) 0 (omega (arith, length-replicate {A = ℕ} m 0))
     go i (inr h) = getD-replicate {A = ℕ} m i 0 0 h
 
-nothing : (m : ℕ) → Holds 0 (replicate m 0)
-nothing m = record { at = λ i. cleared m .at i (omega arith) ∙ sym (coefficient-zero i) }
-
-pub short-room : {n L : ℕ} → n ≤ 127 → L < 64
-    → Room n L (replicate 128 0) (replicate 128 0) (replicate 64 0) (replicate 64 0) (replicate 64 0) (replicate 64 0) (replicate 64 0) (replicate 64 0)
-    (replicate 64 0) (replicate 64 0) (replicate 128 0)
-short-room h l = record {
-  d-long = omega arith;
-  d-zero = nothing 128;
-  list-long = omega arith;
+pub short-room : {n L : ℕ} {list : List ℕ} → n ≤ 127 → n ≤ length list → L < 64
+    → Room n L (replicate 32 0) (replicate 128 0) (replicate 64 0) (replicate 64 0) (replicate 64 0) (replicate 64 0) (replicate 64 0) (replicate 64 0)
+    (replicate 64 0) (replicate 64 0) list
+short-room h k l = record {
+  col-long = omega arith;
+  list-long = k;
   val-long = omega arith;
   a-long = omega arith;
   b-long = omega arith;
@@ -55,13 +49,12 @@ short-room h l = record {
   x-zero = cleared 64;
 }
 
-pub long-room : {n L : ℕ} → n ≤ 127 → L ≤ 1023
-    → Room n L (replicate 128 0) (replicate 128 0) (replicate 1024 0) (replicate 1024 0) (replicate 1024 0) (replicate 1024 0) (replicate 1024 0) (replicate 1024 0)
-    (replicate 1024 0) (replicate 1024 0) (replicate 128 0)
-long-room h l = record {
-  d-long = omega arith;
-  d-zero = nothing 128;
-  list-long = omega arith;
+pub long-room : {n L : ℕ} {list : List ℕ} → n ≤ 127 → n ≤ length list → L ≤ 1023
+    → Room n L (replicate 32 0) (replicate 128 0) (replicate 1024 0) (replicate 1024 0) (replicate 1024 0) (replicate 1024 0) (replicate 1024 0) (replicate 1024 0)
+    (replicate 1024 0) (replicate 1024 0) list
+long-room h k l = record {
+  col-long = omega arith;
+  list-long = k;
   val-long = omega arith;
   a-long = omega arith;
   b-long = omega arith;
@@ -83,8 +76,8 @@ degree-of p = subst Degree (sym (p .s-is)) (degree (p .length-of))
 pub terms-few : {n s t : ℕ} {c : CodeCertificate} {reps : List ℕ} → Given n s t c reps → c .terms ≤ 1023
 terms-few {c = c} {reps} p = in-range (p .length-of) reps (certificateAs c) (p .sound) .L-high
 
-pub small-tables : {s : ℕ} → Degree s → s ≤ 8 → Tables.Room s (replicate 1024 0) (replicate 256 0)
+pub small-tables : {s : ℕ} → Degree s → s ≤ 8 → Tables.Room s (replicate 1280 0) (replicate 256 0)
 small-tables {s} d h = let b : 2 ^ s ≤ 2 ^ 8 = pow-mono h in record { degree = d; e-long = omega arith; g-long = omega arith }
 
-pub large-tables : {s : ℕ} → Degree s → Tables.Room s (replicate 16384 0) (replicate 4096 0)
+pub large-tables : {s : ℕ} → Degree s → Tables.Room s (replicate 20480 0) (replicate 4096 0)
 large-tables {s} d = let b : 2 ^ s ≤ 2 ^ 12 = pow-mono (d .hi) in record { degree = d; e-long = omega arith; g-long = omega arith }

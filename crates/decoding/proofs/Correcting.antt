@@ -1,8 +1,8 @@
 -- The parts of correcting a word, joined.
 --
---   computable, walkable, comparable, solvable, searchable      what each part needs of what was there before
+--   setting, computable, extendable, walkable, comparable, solvable, searchable      what each part needs of what was there before
 --   stop-fits, f-small, few      t u is at most L, f below 512, L at most 1,023
---   marked-v, marked-x      the slice that holds the locator
+--   placed-v, placed-x      the slice that holds the locator
 --   passed-many, passed-yes, passed-no      the exits of the last test
 --   corrected-clean      a codeword stays as it is
 --   exit-many, exit-tested, passed      what they say of the received word
@@ -12,10 +12,10 @@ use mathlib.Core.Logic.{_↔_}
 use mathlib.Core.Bool.{Bool, true, false}
 use mathlib.Core.List.{List, [], _∷_}
 use Prim.Native.Nat.{ℕ, suc, _+_, _-_, _*_, _/_, _^_, _≤_, _<_}
-use native.Mathlib.Nat.{one-mul, mul-one}
 use native.Mathlib.Decide.{decLt}
 use native.Mathlib.Omega.{arith}
 use lib.ListN.{length, getD}
+use lib.Pow.{pow-pos}
 use Rattle.algebra.proofs.Coprime.{Divides}
 use Rattle.algebra.proofs.Poly.{Polys}
 use Rattle.algebra.proofs.Alternant.{factor}
@@ -23,7 +23,7 @@ use Rattle.algebra.proofs.Rows.{Done}
 use Rattle.field.specs.Mask.{_⊕_, coefficient}
 use Rattle.field.specs.Field.{Degree, orderOfTwo}
 use Rattle.field.proofs.Search.{true-ne-false}
-use Rattle.field.proofs.Xor.{digit-lt, ⊕-zero-l}
+use Rattle.field.proofs.Xor.{digit-lt, ⊕-zero-r}
 use Rattle.field.proofs.Elements.{F, GF}
 use Rattle.masks.specs.Factor.{degree as degreeOf, Modulus}
 use Rattle.cyclic.proofs.Places.{count}
@@ -44,17 +44,21 @@ use Rattle.certificate.proofs.Checks.{modulus-of, walkable-ranged}
 use Rattle.certificate.proofs.Terms.{f-fits}
 use Rattle.distance.proofs.Rules.{Sound, in-range, theory}
 use Rattle.distance.proofs.Distance.{Word, differences-self}
-use Rattle.binary.specs.Bits.{Holds, Summed}
+use Rattle.binary.specs.Bits.{Holds}
 use Rattle.poly.specs.Slice.{Small, Short, series}
 use Rattle.poly.specs.Key.{Solvable, Key, Solved, Outcome}
-use Rattle.syndrome.specs.Value.{Listable, Computable, Computed, Tested, Comparable, Compared}
-use Rattle.syndrome.proofs.Computing.{powered-of, rep-in}
+use Rattle.tables.proofs.Exponents.{powered-of}
+use Rattle.evaluation.specs.Sums.{Listed}
+use Rattle.evaluation.proofs.Listing.{listed-none}
+use Rattle.syndrome.specs.Value.{Evaluable, Computable, Computed, Tested, Extendable, Comparable, Compared}
+use Rattle.syndrome.proofs.Setting.{rep-in}
 use Rattle.syndrome.specs.Series.{Syndromes}
-use Rattle.locating.specs.Change.{Search, Changed}
+use Rattle.locating.specs.Locate.{Search}
+use Rattle.locating.specs.Locate as Places
 use Rattle.decoding.specs.declared.types.Correction.{Correction}
 use Rattle.decoding.specs.declared.types.Correction.the-variants.{Places, None}
-use Rattle.decoding.specs.Correct.{Given, Searchable, Marked, Passed, Correctable, placesOf, Codeword, Corrected}
-use Rattle.decoding.proofs.Reception.{syndromes-short, syndromes-small, received}
+use Rattle.decoding.specs.Correct.{Given, Searchable, Placed, Passed, Correctable, placesOf, Codeword, Corrected}
+use Rattle.decoding.proofs.Reception.{Known, syndromes-short, syndromes-small, received}
 use Rattle.decoding.proofs.Verdict.{far-many, far-other, close-here}
 
 -- ---- numbers
@@ -72,21 +76,33 @@ module _ {n s t : ℕ} {c : CodeCertificate} {reps : List ℕ} (p : Given n s t 
       (stop-fits₀ (c .terms) (degreeOf (c .f)) (degreeOf (c .h)) (range .v))
 
 -- ---- what the parts need
-module _ {n s t : ℕ} {c : CodeCertificate} {reps e g list val a b v x lg st lo hi d w : List ℕ}
-    (p : Correctable n s t c reps e g list val a b v x lg st lo hi d w) where
-  pub computable : Computable n s w reps e g list val
-  computable = record {
-    listable = record {
-      few = omega (arith, p .given .most);
-      bits = λ i. subst (λ (y : ℕ). y < 2) (sym (p .held .holds .at i)) (digit-lt (p .held .word / 2 ^ i));
-      w-long = p .held .long;
-      list-long = p .room .list-long;
-    };
+module _ {n s t : ℕ} {c : CodeCertificate} {reps e g col val a b v x lg st lo hi list w : List ℕ}
+    (p : Correctable n s t c reps e g col val a b v x lg st lo hi list w) where
+  setting : Evaluable n s reps e
+  setting = record {
     odd = p .given .length-of .odd;
     s-is = p .given .s-is;
-    val-long = p .room .val-long;
     below = p .given .below;
+    powered = powered-of (p .tables);
+  }
+
+  pub computable : Computable n s w reps e g col val
+  computable = record {
+    setting = setting;
     tables = p .tables;
+    bits = λ i. subst (λ (y : ℕ). y < 2) (sym (p .held .holds .at i)) (digit-lt (p .held .word / 2 ^ i));
+    w-long = p .held .long;
+    col-long = p .room .col-long;
+    val-long = p .room .val-long;
+  }
+
+  pub extendable : {val′ : List ℕ} → length val′ ≡ length val → Computed n s w reps val′ → Extendable n s reps e g val′
+  extendable l y = record {
+    setting = setting;
+    tables = p .tables;
+    long = omega (arith, l, p .room .val-long);
+    word = p .held .word;
+    held = y .at (p .held .word) (p .held .holds) (p .held .small);
   }
 
   pub walkable : {val′ : List ℕ} → length val′ ≡ length val → Walkable n c val′
@@ -98,42 +114,34 @@ module _ {n s t : ℕ} {c : CodeCertificate} {reps e g list val a b v x lg st lo
   pub few : c .terms ≤ 1023
   few = range (p .given) .L-high
 
-  -- where at most t places are changed, d holds them
-  pub comparable : {m : ℕ} {second : Bool} {v′ x′ d′ list′ val′ : List ℕ} → Marked n s t c second v′ x′ d d′ m → length d′ ≡ length d
-      → length list′ ≡ length list → length val′ ≡ length val → m ≤ t → Comparable n s d′ reps val′ e list′
-  comparable {second = second} {d′ = d′} {list′} y ld ll lv h = record {
-    testable = record {
-      listable = room second refl;
-      odd = p .given .length-of .odd;
-      s-is = p .given .s-is;
-      below = p .given .below;
-      powered = powered-of (p .tables);
-    };
-    val-long = omega (arith, lv, p .room .val-long);
-  }
+  -- where they are at most t, the places are listed
+  pub comparable : {m : ℕ} {second : Bool} {v′ x′ list′ val′ : List ℕ} → Placed n s t c second v′ x′ list′ m → length list′ ≡ length list
+      → length val′ ≡ length val → m ≤ t → Comparable n s m list′ reps val′ e
+  comparable {m} {second = second} {list′ = list′} {val′} y ll lv h = go second refl
     where
-      bits : {r : ℕ} → Holds r d′ → Listable n d′ list′
-      bits {r} q = record {
-        few = omega (arith, p .given .most);
-        bits = λ i. subst (λ (y : ℕ). y < 2) (sym (q .at i)) (digit-lt (r / 2 ^ i));
-        w-long = omega (arith, ld, p .room .d-long);
-        list-long = omega (arith, ll, p .room .list-long);
+      by : {a : ℕ} → Listed n a list′ m → Comparable n s m list′ reps val′ e
+      by q = record {
+        setting = setting;
+        long = omega (arith, q .le, ll, p .room .list-long);
+        few = q .le;
+        places = q .below;
+        val-long = omega (arith, lv, p .room .val-long);
       }
 
-      room : (z : Bool) → second ≡ z → Listable n d′ list′
-      room false e = bits (y .by-v e .found .all h .1 _ (p .room .d-zero))
-      room true e = bits (y .by-x e .found .all h .1 _ (p .room .d-zero))
+      go : (z : Bool) → second ≡ z → Comparable n s m list′ reps val′ e
+      go false e = by (y .by-v e .found .all h .1)
+      go true e = by (y .by-x e .found .all h .1)
 
-  pub solvable : {u : ℕ} {val′ b′ : List ℕ} → u ≡ degreeOf (c .f) → Computed n s w reps val′ → Syndromes n (certificateAs c) val′ b b′
+  pub solvable : {u : ℕ} {val′ b′ : List ℕ} → u ≡ degreeOf (c .f) → Known n s w reps val′ → Syndromes n (certificateAs c) val′ b b′
       → length b′ ≡ length b → Solvable s (c .terms) (c .terms - t * u) a b′ v x e g
   solvable {u} {val′} {b′} eu y z lb = record {
     tables = p .tables;
     b-small = subst (λ (d : ℕ). Small d b′) (sym (p .given .s-is))
         (syndromes-small (p .given .length-of) reps (certificateAs c) (p .given .sound)
-        (subst (λ (d : ℕ). Computed n d w reps val′) (p .given .s-is) y) z (p .room .b-zero) (p .held .holds) (p .held .small));
+        (subst (λ (d : ℕ). Known n d w reps val′) (p .given .s-is) y) z (p .room .b-zero) (p .held .holds) (p .held .small));
     b-short =
         syndromes-short (p .given .length-of) reps (certificateAs c) (p .given .sound)
-        (subst (λ (d : ℕ). Computed n d w reps val′) (p .given .s-is) y) z (p .room .b-zero) (p .held .holds) (p .held .small);
+        (subst (λ (d : ℕ). Known n d w reps val′) (p .given .s-is) y) z (p .room .b-zero) (p .held .holds) (p .held .small);
     a-zero = p .room .a-zero;
     v-zero = p .room .v-zero;
     w-zero = p .room .x-zero;
@@ -147,7 +155,7 @@ module _ {n s t : ℕ} {c : CodeCertificate} {reps e g list val a b v x lg st lo
   module _ {u τ len : ℕ} {S v′ x′ : List ℕ} {second : Bool} (eu : u ≡ degreeOf (c .f)) (o : Outcome s (c .terms) τ S second len v′ x′)
       (lv : length v′ ≡ length v) (lx : length x′ ≡ length x) where
     search : {lam : List ℕ} → Solved s (c .terms) τ S lam len → (len ≤ length lg) × (len ≤ length st) × (len ≤ length lo) × (len ≤ length hi)
-        → Search n s (c .z) (c .f) u len lam e g lg st lo hi d
+        → Search n s (c .z) (c .f) u len lam e g lg st lo hi list
     search y q = record {
       tables = p .tables;
       odd = p .given .length-of .odd;
@@ -165,10 +173,11 @@ module _ {n s t : ℕ} {c : CodeCertificate} {reps e g list val a b v x lg st lo
         lo-long = q .2;
         hi-long = q .3;
       };
-      w-long = p .room .d-long;
+      list-long = p .room .list-long;
+      few = omega (arith, p .given .most);
     }
 
-    pub searchable : Searchable n s c u second len v′ x′ e g lg st lo hi d
+    pub searchable : Searchable n s c u second len v′ x′ e g lg st lo hi list
     searchable = record {
       in-v = λ q. search (o .in-v q) (
         omega (arith, o .in-v q .long, lv, p .room .lg-long .0),
@@ -188,16 +197,16 @@ module _ {n s t : ℕ} {c : CodeCertificate} {reps e g list val a b v x lg st lo
 differ : true ≡ false → ⊥
 differ e = true-ne-false refl e
 
-module _ {n s t m : ℕ} {c : CodeCertificate} {second : Bool} {v x w w′ : List ℕ} where
-  pub marked-v : second ≡ false → Changed n s (c .z) (c .f) t v w w′ m → Marked n s t c second v x w w′ m
-  marked-v e y = record { by-v = λ _. y; by-x = λ q. absurd (differ (sym q ∙ e)) }
+module _ {n s t m : ℕ} {c : CodeCertificate} {second : Bool} {v x list : List ℕ} where
+  pub placed-v : second ≡ false → Places.Located n s (c .z) (c .f) t v list m → Placed n s t c second v x list m
+  placed-v e y = record { by-v = λ _. y; by-x = λ q. absurd (differ (sym q ∙ e)) }
 
-  pub marked-x : second ≡ true → Changed n s (c .z) (c .f) t x w w′ m → Marked n s t c second v x w w′ m
-  marked-x e y = record { by-v = λ q. absurd (differ (sym e ∙ q)); by-x = λ _. y }
+  pub placed-x : second ≡ true → Places.Located n s (c .z) (c .f) t x list m → Placed n s t c second v x list m
+  placed-x e y = record { by-v = λ q. absurd (differ (sym e ∙ q)); by-x = λ _. y }
 
 -- ---- the last test
-module _ {n s t m : ℕ} {d reps val : List ℕ} where
-  pub passed-many : t < m → Passed n s t m d reps val None
+module _ {n s t m : ℕ} {list reps val : List ℕ} where
+  pub passed-many : t < m → Passed n s t m list reps val None
   passed-many h = record {
     many = λ _. refl;
     right = false;
@@ -206,8 +215,8 @@ module _ {n s t m : ℕ} {d reps val : List ℕ} where
     no = λ l e. refl;
   }
 
-  module _ {right : Bool} (h : m ≤ t) (y : Compared n s d reps val right) where
-    pub passed-yes : right ≡ true → Passed n s t m d reps val (Places m)
+  module _ {right : Bool} (h : m ≤ t) (y : Compared n s m list reps val right) where
+    pub passed-yes : right ≡ true → Passed n s t m list reps val (Places m)
     passed-yes e = record {
       many = λ l. absurd (omega arith);
       right = right;
@@ -216,7 +225,7 @@ module _ {n s t m : ℕ} {d reps val : List ℕ} where
       no = λ _ q. absurd (differ (sym e ∙ q));
     }
 
-    pub passed-no : right ≡ false → Passed n s t m d reps val None
+    pub passed-no : right ≡ false → Passed n s t m list reps val None
     passed-no e = record {
       many = λ _. refl;
       right = right;
@@ -226,19 +235,27 @@ module _ {n s t m : ℕ} {d reps val : List ℕ} where
     }
 
 -- ---- a codeword stays as it is
-pub corrected-clean : {n t : ℕ} {w reps : List ℕ} {clean : Bool} → Tested n w reps clean → clean ≡ true → Corrected n t reps w w (Places 0)
-corrected-clean {n} {t} y e = record {
-  found = λ {r} hr lr q.
+pub corrected-clean : {n t : ℕ} {w reps list : List ℕ} {clean : Bool} → Tested n w reps clean → clean ≡ true
+    → Corrected n t reps w list (Places 0)
+corrected-clean {n} {t} {reps = reps} {list} y e = record {
+  found = λ {r} {m} hr lr q.
       let z = ap (λ (l : List ℕ). getD l 0 0) q in
-      (r, record { small = lr; is = sym (y .is r hr lr) ∙ e }, sym z ∙ sym (differences-self n r), subst (λ (u : ℕ). u ≤ t) z (omega arith), hr);
+      let o : r ⊕ 0 ≡ r = ⊕-zero-r r in (
+        0,
+        subst (Codeword n reps) (sym o) record { small = lr; is = sym (y .is r hr lr) ∙ e },
+        sym z ∙ sym (ap (differences n r) o ∙ differences-self n r),
+        subst (λ (u : ℕ). u ≤ t) z (omega arith),
+        pow-pos n,
+        subst (Listed n 0 list) z (listed-none n),
+      );
   none = λ hr lr q. let z : _≡_ {A = ℕ} 1 0 = ap length q in absurd (omega arith);
 }
 
 -- ---- the exits, where s is the code's own degree
-module _ {n t : ℕ} {c : CodeCertificate} {reps : List ℕ} (p : Given n (orderOfTwo n) t c reps) {w w′ d d′ val b b′ lam : List ℕ} {τ len m : ℕ}
-    (values : Computed n (orderOfTwo n) w reps val) (written : Syndromes n (certificateAs c) val b b′) (fresh : Short 0 b)
+module _ {n t : ℕ} {c : CodeCertificate} {reps : List ℕ} (p : Given n (orderOfTwo n) t c reps) {w list val b b′ lam : List ℕ} {τ len m : ℕ}
+    (values : Known n (orderOfTwo n) w reps val) (written : Syndromes n (certificateAs c) val b b′) (fresh : Short 0 b)
     (τ-is : τ ≡ c .terms - t * degreeOf (c .f)) (solved : Solved (orderOfTwo n) (c .terms) τ b′ lam len)
-    (marked : Changed n (orderOfTwo n) (c .z) (c .f) t lam d d′ m) (zero : Holds 0 d) (added : Summed 0 n 1 d′ w w′) where
+    (marked : Places.Located n (orderOfTwo n) (c .z) (c .f) t lam list m) where
   abbrev l : Length n
   l = p .length-of
 
@@ -270,7 +287,7 @@ module _ {n t : ℕ} {c : CodeCertificate} {reps : List ℕ} (p : Given n (order
   word : {y : ℕ} → Codeword n reps y → Word l reps C (p .sound) y
   word q = record { small = q .small; is = q .is }
 
-  exit-many : t < m → Corrected n t reps w w′ None
+  exit-many : t < m → Corrected n t reps w list None
   exit-many h = record {
     found = λ hr lr e. absurd (differ e);
     none = λ {r} hr lr e x q.
@@ -282,7 +299,7 @@ module _ {n t : ℕ} {c : CodeCertificate} {reps : List ℕ} (p : Given n (order
       differ : {y : ℕ} → [] ≡ y ∷ [] → ⊥
       differ e = let z : _≡_ {A = ℕ} 0 1 = ap length e in omega arith
 
-  exit-tested : {y : Bool} → m ≤ t → Compared n (orderOfTwo n) d′ reps val y → (y ≡ true → Corrected n t reps w w′ (Places m)) × (y ≡ false → Corrected n t reps w w′ None)
+  exit-tested : {y : Bool} → m ≤ t → Compared n (orderOfTwo n) m list reps val y → (y ≡ true → Corrected n t reps w list (Places m)) × (y ≡ false → Corrected n t reps w list None)
   exit-tested {y} h k = (here, other)
     where
       differ : {z : ℕ} → [] ≡ z ∷ [] → ⊥
@@ -291,32 +308,25 @@ module _ {n t : ℕ} {c : CodeCertificate} {reps : List ℕ} (p : Given n (order
       same : {z z′ : ℕ} → z ∷ [] ≡ z′ ∷ [] → z ≡ z′
       same e = ap (λ (q : List ℕ). getD q 0 0) e
 
-      changes : Holds (marked .places) d′
-      changes = subst (λ (q : ℕ). Holds q d′) (⊕-zero-l (marked .places)) (marked .found .all h .1 0 zero)
-
-      changed : {r : ℕ} → Holds r w → Holds (r ⊕ marked .places) w′
-      changed {r} hr =
-          let one : 1 * (marked .places * 2 ^ 0) ≡ marked .places = omega (arith, one-mul (marked .places * 2 ^ 0), mul-one (marked .places)) in
-          subst (λ (q : ℕ). Holds (r ⊕ q) w′) one (added .holds (omega arith) changes (marked .small) hr)
-
       says : {r : ℕ} → Holds r w → r < 2 ^ n → y ≡ isCodeword (n - dimension n reps) (generator n reps) (r ⊕ marked .places)
-      says {r} hr lr = k .is r (marked .places) changes lr (marked .small) (λ i l. values .at r hr lr (getD reps i 0) (rep-in (p .length-of) reps (p .below) i l))
+      says {r} hr lr = k .is r (marked .places) (marked .found .all h .1) lr (marked .small) (λ i l. values .at r hr lr (getD reps i 0) (rep-in (p .length-of) reps (p .below) i l))
 
-      here : y ≡ true → Corrected n t reps w w′ (Places m)
+      here : y ≡ true → Corrected n t reps w list (Places m)
       here e = record {
         found = λ {r} hr lr q.
             let k = close-here l reps C (p .sound) lr (received l reps C (p .sound) values written fresh hr lr) (final .0) located
             (sym (says hr lr) ∙ e) in (
-              r ⊕ marked .places,
+              marked .places,
               record { small = k .0 .small; is = k .0 .is },
               sym (same q) ∙ marked .found .all h .0 ∙ k .1,
               subst (λ (u : ℕ). u ≤ t) (same q) h,
-              changed hr,
+              marked .small,
+              subst (Listed n (marked .places) list) (same q) (marked .found .all h .1),
             );
         none = λ hr lr q. absurd (differ (sym q));
       }
 
-      other : y ≡ false → Corrected n t reps w w′ None
+      other : y ≡ false → Corrected n t reps w list None
       other e = record {
         found = λ hr lr q. absurd (differ q);
         none = λ {r} hr lr q x o.
@@ -325,39 +335,39 @@ module _ {n t : ℕ} {c : CodeCertificate} {reps : List ℕ} (p : Given n (order
             (sym (says hr lr) ∙ e) x (word o));
       }
 
-  passed : {answer : Correction} → Passed n (orderOfTwo n) t m d′ reps val answer → Corrected n t reps w w′ answer
+  passed : {answer : Correction} → Passed n (orderOfTwo n) t m list reps val answer → Corrected n t reps w list answer
   passed {answer} k = go (decLt t m)
     where
-      like : {y : Correction} → answer ≡ y → Corrected n t reps w w′ y → Corrected n t reps w w′ answer
-      like e z = subst (Corrected n t reps w w′) (sym e) z
+      like : {y : Correction} → answer ≡ y → Corrected n t reps w list y → Corrected n t reps w list answer
+      like e z = subst (Corrected n t reps w list) (sym e) z
 
-      tested : m ≤ t → (y : Bool) → k .right ≡ y → Corrected n t reps w w′ answer
+      tested : m ≤ t → (y : Bool) → k .right ≡ y → Corrected n t reps w list answer
       tested h true e = like (k .yes h e) (exit-tested h (k .tested h) .0 e)
       tested h false e = like (k .no h e) (exit-tested h (k .tested h) .1 e)
 
-      go : Dec (t < m) → Corrected n t reps w w′ answer
+      go : Dec (t < m) → Corrected n t reps w list answer
       go (yes h) = like (k .many h) (exit-many h)
       go (no h) = tested (omega arith) (k .right) refl
 
 -- ---- for any name of the degree, and whichever slice the locator stands in
-module _ {n s t : ℕ} {c : CodeCertificate} {reps : List ℕ} (p : Given n s t c reps) {w w′ d d′ val b b′ : List ℕ} {τ len m : ℕ} {answer : Correction} (zero : Holds 0 d) (added : Summed 0 n 1 d′ w w′) where
-  at-own : {lam : List ℕ} → Computed n s w reps val → Syndromes n (certificateAs c) val b b′ → Short 0 b → τ ≡ c .terms - t * degreeOf (c .f)
-      → Solved s (c .terms) τ b′ lam len → Changed n s (c .z) (c .f) t lam d d′ m → Passed n s t m d′ reps val answer → Corrected n t reps w w′ answer
+module _ {n s t : ℕ} {c : CodeCertificate} {reps : List ℕ} (p : Given n s t c reps) {w list val b b′ : List ℕ} {τ len m : ℕ} {answer : Correction} where
+  at-own : {lam : List ℕ} → Known n s w reps val → Syndromes n (certificateAs c) val b b′ → Short 0 b → τ ≡ c .terms - t * degreeOf (c .f)
+      → Solved s (c .terms) τ b′ lam len → Places.Located n s (c .z) (c .f) t lam list m → Passed n s t m list reps val answer → Corrected n t reps w list answer
   at-own {lam} values written fresh τ-is solved marked k =
       own (p .s-is) p values solved marked k
     where
-      own : {i : ℕ} → i ≡ orderOfTwo n → Given n i t c reps → Computed n i w reps val → Solved i (c .terms) τ b′ lam len
-          → Changed n i (c .z) (c .f) t lam d d′ m → Passed n i t m d′ reps val answer → Corrected n t reps w w′ answer
+      own : {i : ℕ} → i ≡ orderOfTwo n → Given n i t c reps → Known n i w reps val → Solved i (c .terms) τ b′ lam len
+          → Places.Located n i (c .z) (c .f) t lam list m → Passed n i t m list reps val answer → Corrected n t reps w list answer
       own {i} e p values solved marked k =
-          passed (subst (λ (i : ℕ). Given n i t c reps) e p) (subst (λ (i : ℕ). Computed n i w reps val) e values) written fresh τ-is
-          (subst (λ (i : ℕ). Solved i (c .terms) τ b′ lam len) e solved) (subst (λ (i : ℕ). Changed n i (c .z) (c .f) t lam d d′ m) e marked) zero added
-          (subst (λ (i : ℕ). Passed n i t m d′ reps val answer) e k)
+          passed (subst (λ (i : ℕ). Given n i t c reps) e p) (subst (λ (i : ℕ). Known n i w reps val) e values) written fresh τ-is
+          (subst (λ (i : ℕ). Solved i (c .terms) τ b′ lam len) e solved) (subst (λ (i : ℕ). Places.Located n i (c .z) (c .f) t lam list m) e marked)
+          (subst (λ (i : ℕ). Passed n i t m list reps val answer) e k)
 
-  pub corrected : {v x : List ℕ} {u : ℕ} {second : Bool} → Computed n s w reps val → Syndromes n (certificateAs c) val b b′ → Short 0 b → u ≡ degreeOf (c .f)
-      → τ ≡ c .terms - t * u → Outcome s (c .terms) τ b′ second len v x → Marked n s t c second v x d d′ m → Passed n s t m d′ reps val answer
-      → Corrected n t reps w w′ answer
+  pub corrected : {v x : List ℕ} {u : ℕ} {second : Bool} → Known n s w reps val → Syndromes n (certificateAs c) val b b′ → Short 0 b → u ≡ degreeOf (c .f)
+      → τ ≡ c .terms - t * u → Outcome s (c .terms) τ b′ second len v x → Placed n s t c second v x list m → Passed n s t m list reps val answer
+      → Corrected n t reps w list answer
   corrected {second = second} values written fresh eu eτ o marked k = go second refl
     where
-      go : (y : Bool) → second ≡ y → Corrected n t reps w w′ answer
+      go : (y : Bool) → second ≡ y → Corrected n t reps w list answer
       go false e = at-own values written fresh (eτ ∙ ap (λ (i : ℕ). c .terms - t * i) eu) (o .in-v e) (marked .by-v e) k
       go true e = at-own values written fresh (eτ ∙ ap (λ (i : ℕ). c .terms - t * i) eu) (o .in-w e) (marked .by-x e) k

@@ -33,15 +33,22 @@ use Rattle.document.proofs.Demand2.{below-lt, value-is}
 use Rattle.distance.proofs.Rules.{Sound, in-range, covered-here, register-digit, theory}
 use Rattle.poly.specs.Slice.{Small, Short, series}
 use Rattle.binary.specs.Bits.{Holds}
-use Rattle.syndrome.specs.Value.{valueOf, Computed}
+use Rattle.syndrome.specs.Value.{valueOf, Computed, Extended}
 use Rattle.syndrome.specs.Series.{Syndromes}
 
 value-lt : {s : ℕ} (d : Degree s) (a c : ℕ) → valueAt s a c < 2 ^ s
 unfolding valueAt
 value-lt d a c = below-lt d a c (size c)
 
+-- val holds the word's values at α^i for every i of D
+pub record Known (n s : ℕ) (w reps val : List ℕ) : Type 0 where
+  pub at : (c : ℕ) → Holds c w → c < 2 ^ n → (i : ℕ) → inSet n reps i ≡ true → getD val i 0 ≡ valueOf n s c i
+
+pub known : {n s : ℕ} {w reps val val′ : List ℕ} → Computed n s w reps val → Extended n s reps val val′ → Known n s w reps val′
+known y z = record { at = λ c h l i q. z .at c (y .at c h l) i q }
+
 module _ {n : ℕ} (l : Length n) (reps : List ℕ) (c : Certificate) (sound : Sound n reps c)
-    {w val out out′ : List ℕ} (values : Computed n (orderOfTwo n) w reps val) (written : Syndromes n c val out out′)
+    {w val out out′ : List ℕ} (values : Known n (orderOfTwo n) w reps val) (written : Syndromes n c val out out′)
     (fresh : Short 0 out) {r : ℕ} (holds : Holds r w) (small : r < 2 ^ n) where
   abbrev s : ℕ
   s = orderOfTwo n

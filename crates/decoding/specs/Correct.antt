@@ -1,15 +1,16 @@
 -- What correcting a word asks for, and says. No entry's contract cites this file.
 --
 --   Given n s t c reps       a certificate that keeps rules 1 to 4, with its radius
---   Searchable, Marked       the places of a locator that stands in one of two slices
+--   Searchable, Placed       the places of a locator that stands in one of two slices
 --   placesOf, Passed         the number of changed places or nothing, and what the last test lets through
 --   Room, Held, Correctable      lent slices that are long enough and hold 0 where they must, and a word
 --   Corrected                the codeword within t places, or that there is none
 use mathlib.Core.Path.{_≡_}
 use mathlib.Core.Bool.{Bool, true, false}
 use mathlib.Core.List.{List, [], _∷_}
-use Prim.Native.Nat.{ℕ, _-_, _^_, _≤_, _<_}
+use Prim.Native.Nat.{ℕ, _+_, _-_, _*_, _/_, _^_, _≤_, _<_}
 use lib.ListN.{length, getD}
+use Rattle.field.specs.Mask.{_⊕_}
 use Rattle.field.specs.Field.{orderOfTwo}
 use Rattle.tables.specs.Tables.{Tables}
 use Rattle.document.specs.Coset.{dimension}
@@ -20,9 +21,10 @@ use Rattle.certificate.specs.declared.types.Certificate.{Certificate as CodeCer
 use Rattle.certificate.specs.Rules.{certificateAs}
 use Rattle.distance.proofs.Rules.{Sound}
 use Rattle.binary.specs.Bits.{Holds}
-use Rattle.poly.specs.Slice.{Small, Short}
+use Rattle.evaluation.specs.Sums.{Listed}
+use Rattle.poly.specs.Slice.{Short}
 use Rattle.syndrome.specs.Value.{Compared}
-use Rattle.locating.specs.Change.{Search, Changed}
+use Rattle.locating.specs.Locate.{Search, Located}
 use Rattle.decoding.specs.declared.types.Correction.{Correction}
 use Rattle.decoding.specs.declared.types.Correction.the-variants.{Places, None}
 
@@ -35,13 +37,13 @@ pub record Given (n s t : ℕ) (c : CodeCertificate) (reps : List ℕ) : Type 0 
   pub t-is : t ≡ radius (certificateAs c)
 
 -- ---- the places of a locator
-pub record Searchable (n s : ℕ) (c : CodeCertificate) (u : ℕ) (second : Bool) (len : ℕ) (v x e g lg st lo hi d : List ℕ) : Type 0 where
-  pub in-v : second ≡ false → Search n s (c .z) (c .f) u len v e g lg st lo hi d
-  pub in-x : second ≡ true → Search n s (c .z) (c .f) u len x e g lg st lo hi d
+pub record Searchable (n s : ℕ) (c : CodeCertificate) (u : ℕ) (second : Bool) (len : ℕ) (v x e g lg st lo hi list : List ℕ) : Type 0 where
+  pub in-v : second ≡ false → Search n s (c .z) (c .f) u len v e g lg st lo hi list
+  pub in-x : second ≡ true → Search n s (c .z) (c .f) u len x e g lg st lo hi list
 
-pub record Marked (n s t : ℕ) (c : CodeCertificate) (second : Bool) (v x d d′ : List ℕ) (r : ℕ) : Type 0 where
-  pub by-v : second ≡ false → Changed n s (c .z) (c .f) t v d d′ r
-  pub by-x : second ≡ true → Changed n s (c .z) (c .f) t x d d′ r
+pub record Placed (n s t : ℕ) (c : CodeCertificate) (second : Bool) (v x list : List ℕ) (r : ℕ) : Type 0 where
+  pub by-v : second ≡ false → Located n s (c .z) (c .f) t v list r
+  pub by-x : second ≡ true → Located n s (c .z) (c .f) t x list r
 
 -- ---- the last test
 -- the number of changed places, or nothing
@@ -49,18 +51,17 @@ abbrev pub placesOf : Correction → List ℕ
 placesOf (Places m) = m ∷ []
 placesOf None = []
 
--- d holds the changes: more than t, or no codeword with them: nothing
-pub record Passed (n s t m : ℕ) (d reps val : List ℕ) (answer : Correction) : Type 0 where
+-- m listed places: more than t, or no codeword with them changed: nothing
+pub record Passed (n s t m : ℕ) (list reps val : List ℕ) (answer : Correction) : Type 0 where
   pub many : t < m → answer ≡ None
   pub right : Bool
-  pub tested : m ≤ t → Compared n s d reps val right
+  pub tested : m ≤ t → Compared n s m list reps val right
   pub yes : m ≤ t → right ≡ true → answer ≡ Places m
   pub no : m ≤ t → right ≡ false → answer ≡ None
 
 -- ---- the whole
-pub record Room (n L : ℕ) (list val a b v x lg st lo hi d : List ℕ) : Type 0 where
-  pub d-long : n ≤ length d
-  pub d-zero : Holds 0 d
+pub record Room (n L : ℕ) (col val a b v x lg st lo hi list : List ℕ) : Type 0 where
+  pub col-long : (n + 7) / 8 * 2 ≤ length col
   pub list-long : n ≤ length list
   pub val-long : n ≤ length val
   pub a-long : L < length a
@@ -76,17 +77,17 @@ pub record Room (n L : ℕ) (list val a b v x lg st lo hi d : List ℕ) : Type 0
   pub v-zero : Short 0 v
   pub x-zero : Short 0 x
 
--- a word of n places
+-- a word of n places, with room to the next whole byte
 pub record Held (n : ℕ) (w : List ℕ) : Type 0 where
   pub word : ℕ
   pub small : word < 2 ^ n
   pub holds : Holds word w
-  pub long : n ≤ length w
+  pub long : n + 7 ≤ length w
 
-pub record Correctable (n s t : ℕ) (c : CodeCertificate) (reps e g list val a b v x lg st lo hi d w : List ℕ) : Type 0 where
+pub record Correctable (n s t : ℕ) (c : CodeCertificate) (reps e g col val a b v x lg st lo hi list w : List ℕ) : Type 0 where
   pub given : Given n s t c reps
   pub tables : Tables s e g
-  pub room : Room n (c .terms) list val a b v x lg st lo hi d
+  pub room : Room n (c .terms) col val a b v x lg st lo hi list
   pub held : Held n w
 
 -- a codeword of n places of the code of reps
@@ -94,8 +95,9 @@ pub record Codeword (n : ℕ) (reps : List ℕ) (c : ℕ) : Type 0 where
   pub small : c < 2 ^ n
   pub is : isCodeword (n - dimension n reps) (generator n reps) c ≡ true
 
--- of whatever word r it was: a codeword m places from it, m at most t, which stands in its place; or none is so near
-pub record Corrected (n t : ℕ) (reps w w′ : List ℕ) (answer : Correction) : Type 0 where
+-- of whatever word r it was: m places are listed, m at most t, and with them changed it is a codeword, m places from it; or none
+-- is so near
+pub record Corrected (n t : ℕ) (reps w list : List ℕ) (answer : Correction) : Type 0 where
   pub found : {r m : ℕ} → Holds r w → r < 2 ^ n → placesOf answer ≡ m ∷ []
-      → (c : ℕ) × Codeword n reps c × (m ≡ differences n r c) × (m ≤ t) × Holds c w′
+      → (a : ℕ) × Codeword n reps (r ⊕ a) × (m ≡ differences n r (r ⊕ a)) × (m ≤ t) × (a < 2 ^ n) × Listed n a list m
   pub none : {r : ℕ} → Holds r w → r < 2 ^ n → placesOf answer ≡ [] → (c : ℕ) → Codeword n reps c → t < differences n r c

@@ -1,20 +1,20 @@
-// A received word corrected in place, its places one entry each. Everything here is lent; room.rt has the arrays.
+// The places at which a received word is to be changed. Everything here is lent; room.rt has the arrays.
 ghost use Prim.Native.Nat.{_≤_};
 ghost use Rattle.syndrome.specs.Value.{Comparable};
-ghost use Rattle.decoding.specs.Correct.{Searchable, Marked, Passed, Correctable, Corrected};
+ghost use Rattle.decoding.specs.Correct.{Searchable, Placed, Passed, Correctable, Corrected};
 use crate::types::Correction;
-use binary::bits::add_where;
 use certificate::types::Certificate;
-use locating::change::change;
+use locating::locate::locate;
 use masks::factor::degree;
 use poly::euclid::euclid;
 use poly::types::Locator;
+use syndrome::cosets::extend;
 use syndrome::cosets::values;
 use syndrome::series::syndromes;
 use syndrome::test::agrees;
 
-// The places that the locator marks are changed in d, which holds 0; it stands in x where `second`, and else in v.
-fn change_marked(
+// The places of the locator, which stands in x where `second`, and else in v.
+fn places(
     n: usize,
     s: usize,
     t: usize,
@@ -29,42 +29,73 @@ fn change_marked(
     st: &mut [u16],
     lo: &mut [u64],
     hi: &mut [u64],
-    d: &mut [u8],
+    list: &mut [u8],
 ) -> usize
-    requires { ⌜ Searchable n s c u (found .second) (found .len) (now v) (now x) (now e) (now g) (now lg) (now st) (now lo) (now hi) (now d) ⌝ }
-    ensures { λ r. ⌜ Marked n s t c (found .second) (now (v .entry)) (now (x .entry)) (now (d .entry)) (now (d .exit)) r ⌝ }
+    requires { ⌜ Searchable n s c u (found .second) (found .len) (now v) (now x) (now e) (now g) (now lg) (now st) (now lo) (now hi) (now list) ⌝ }
+    ensures { λ r. ⌜ Placed n s t c (found .second) (now (v .entry)) (now (x .entry)) (now (list .exit)) r ⌝ }
 {
     if found.second {
-        return change(n, s, c.z, c.f, u, t, x, found.len, e, g, lg, st, lo, hi, d);
+        return locate(
+            n,
+            s,
+            c.z,
+            c.f,
+            u,
+            t,
+            x,
+            found.len,
+            e,
+            g,
+            lg,
+            st,
+            lo,
+            hi,
+            list,
+        );
     }
-    change(n, s, c.z, c.f, u, t, v, found.len, e, g, lg, st, lo, hi, d)
+    locate(
+        n,
+        s,
+        c.z,
+        c.f,
+        u,
+        t,
+        v,
+        found.len,
+        e,
+        g,
+        lg,
+        st,
+        lo,
+        hi,
+        list,
+    )
 }
 
-// Whatever a locator marks, a word is let through only if at most t places were changed and it is a codeword.
+// Whatever places a locator has, they are let through only if they are at most t and changing them gives a codeword.
 fn verdict(
     n: usize,
     s: usize,
     t: usize,
     m: usize,
-    d: &[u8],
+    list: &[u8],
     reps: &[u8],
     val: &[u16],
     e: &[u16],
-    list: &mut [u8],
 ) -> Correction
-    requires { ⌜ (m ≤ t → Comparable n s (now d) (now reps) (now val) (now e) (now list)) ⌝ }
-    ensures { λ r. ⌜ Passed n s t m (now (d .entry)) (now (reps .entry)) (now (val .entry)) r ⌝ }
+    requires { ⌜ (m ≤ t → Comparable n s m (now list) (now reps) (now val) (now e)) ⌝ }
+    ensures { λ r. ⌜ Passed n s t m (now (list .entry)) (now (reps .entry)) (now (val .entry)) r ⌝ }
 {
     if t < m {
         return Correction::None;
     }
-    if agrees(d, n, s, reps, val, e, list) {
+    if agrees(list, m, n, s, reps, val, e) {
         return Correction::Places(m);
     }
     Correction::None
 }
 
-// The codeword within t places of w in its place, if there is one.
+// The places, as a list, that turn w into the codeword within t places of it, if there is one.
 pub fn correct(
     n: usize,
     s: usize,
@@ -73,7 +104,7 @@ pub fn correct(
     reps: &[u8],
     e: &[u16],
     g: &[u16],
-    list: &mut [u8],
+    col: &mut [u64],
     val: &mut [u16],
     a: &mut [u16],
     b: &mut [u16],
@@ -83,20 +114,19 @@ pub fn correct(
     st: &mut [u16],
     lo: &mut [u64],
     hi: &mut [u64],
-    d: &mut [u8],
-    w: &mut [u8],
+    list: &mut [u8],
+    w: &[u8],
 ) -> Correction
-    requires { ⌜ Correctable n s t c (now reps) (now e) (now g) (now list) (now val) (now a) (now b) (now v) (now x) (now lg) (now st) (now lo) (now hi) (now d) (now w) ⌝ }
-    ensures { λ r. ⌜ Corrected n t (now (reps .entry)) (now (w .entry)) (now (w .exit)) r ⌝ }
+    requires { ⌜ Correctable n s t c (now reps) (now e) (now g) (now col) (now val) (now a) (now b) (now v) (now x) (now lg) (now st) (now lo) (now hi) (now list) (now w) ⌝ }
+    ensures { λ r. ⌜ Corrected n t (now (reps .entry)) (now (w .entry)) (now (list .exit)) r ⌝ }
 {
-    if values(w, n, s, reps, e, g, list, val) {
+    if values(w, n, s, reps, e, g, col, val) {
         return Correction::Places(0);
     }
+    extend(n, s, reps, e, g, val);
     syndromes(n, c, val, b);
     let u = degree(c.f);
     let found = euclid(s, a, b, v, x, c.terms, c.terms - t * u, e, g);
-    let m = change_marked(n, s, t, c, u, found, v, x, e, g, lg, st, lo, hi, d);
-    let answer = verdict(n, s, t, m, d, reps, val, e, list);
-    add_where(w, 0, d, n, 1);
-    answer
+    let m = places(n, s, t, c, u, found, v, x, e, g, lg, st, lo, hi, list);
+    verdict(n, s, t, m, list, reps, val, e)
 }

@@ -1,6 +1,7 @@
 // The arrays that correcting a word works in, by the code's size: tables for s up to 8 or up to 12, and polynomials of 64 or of
 // 1,024 coefficients. Clearing large arrays costs more than correcting a short code's word.
 ghost use Prim.Native.Nat.{_<_, _≤_};
+ghost use lib.ListN.{length};
 ghost use Rattle.tables.specs.Tables.{Tables};
 ghost use Rattle.decoding.specs.Correct.{Given, Held, Corrected};
 use crate::correct::correct;
@@ -16,13 +17,13 @@ fn in_short_room(
     reps: &[u8],
     e: &[u16],
     g: &[u16],
-    w: &mut [u8],
+    list: &mut [u8],
+    w: &[u8],
 ) -> Correction
-    requires { ⌜ Given n s t c (now reps) × Tables s (now e) (now g) × Held n (now w) × (c .terms < 64) ⌝ }
-    ensures { λ r. ⌜ Corrected n t (now (reps .entry)) (now (w .entry)) (now (w .exit)) r ⌝ }
+    requires { ⌜ Given n s t c (now reps) × Tables s (now e) (now g) × Held n (now w) × (n ≤ length (now list)) × (c .terms < 64) ⌝ }
+    ensures { λ r. ⌜ Corrected n t (now (reps .entry)) (now (w .entry)) (now (list .exit)) r ⌝ }
 {
-    let mut list = [0u8; 128];
-    let mut d = [0u8; 128];
+    let mut col = [0u64; 32];
     let mut val = [0u16; 128];
     let mut a = [0u16; 64];
     let mut b = [0u16; 64];
@@ -40,7 +41,7 @@ fn in_short_room(
         reps,
         e,
         g,
-        &mut list,
+        &mut col,
         &mut val,
         &mut a,
         &mut b,
@@ -50,7 +51,7 @@ fn in_short_room(
         &mut st,
         &mut lo,
         &mut hi,
-        &mut d,
+        list,
         w,
     )
 }
@@ -63,13 +64,13 @@ fn in_long_room(
     reps: &[u8],
     e: &[u16],
     g: &[u16],
-    w: &mut [u8],
+    list: &mut [u8],
+    w: &[u8],
 ) -> Correction
-    requires { ⌜ Given n s t c (now reps) × Tables s (now e) (now g) × Held n (now w) ⌝ }
-    ensures { λ r. ⌜ Corrected n t (now (reps .entry)) (now (w .entry)) (now (w .exit)) r ⌝ }
+    requires { ⌜ Given n s t c (now reps) × Tables s (now e) (now g) × Held n (now w) × (n ≤ length (now list)) ⌝ }
+    ensures { λ r. ⌜ Corrected n t (now (reps .entry)) (now (w .entry)) (now (list .exit)) r ⌝ }
 {
-    let mut list = [0u8; 128];
-    let mut d = [0u8; 128];
+    let mut col = [0u64; 32];
     let mut val = [0u16; 128];
     let mut a = [0u16; 1024];
     let mut b = [0u16; 1024];
@@ -87,7 +88,7 @@ fn in_long_room(
         reps,
         e,
         g,
-        &mut list,
+        &mut col,
         &mut val,
         &mut a,
         &mut b,
@@ -97,7 +98,7 @@ fn in_long_room(
         &mut st,
         &mut lo,
         &mut hi,
-        &mut d,
+        list,
         w,
     )
 }
@@ -110,15 +111,16 @@ fn by_tables(
     reps: &[u8],
     e: &[u16],
     g: &[u16],
-    w: &mut [u8],
+    list: &mut [u8],
+    w: &[u8],
 ) -> Correction
-    requires { ⌜ Given n s t c (now reps) × Tables s (now e) (now g) × Held n (now w) ⌝ }
-    ensures { λ r. ⌜ Corrected n t (now (reps .entry)) (now (w .entry)) (now (w .exit)) r ⌝ }
+    requires { ⌜ Given n s t c (now reps) × Tables s (now e) (now g) × Held n (now w) × (n ≤ length (now list)) ⌝ }
+    ensures { λ r. ⌜ Corrected n t (now (reps .entry)) (now (w .entry)) (now (list .exit)) r ⌝ }
 {
     if c.terms < 64 {
-        return in_short_room(n, s, t, c, reps, e, g, w);
+        return in_short_room(n, s, t, c, reps, e, g, list, w);
     }
-    in_long_room(n, s, t, c, reps, e, g, w)
+    in_long_room(n, s, t, c, reps, e, g, list, w)
 }
 
 fn by_small_tables(
@@ -127,15 +129,16 @@ fn by_small_tables(
     t: usize,
     c: Certificate,
     reps: &[u8],
-    w: &mut [u8],
+    list: &mut [u8],
+    w: &[u8],
 ) -> Correction
-    requires { ⌜ Given n s t c (now reps) × Held n (now w) × (s ≤ 8) ⌝ }
-    ensures { λ r. ⌜ Corrected n t (now (reps .entry)) (now (w .entry)) (now (w .exit)) r ⌝ }
+    requires { ⌜ Given n s t c (now reps) × Held n (now w) × (n ≤ length (now list)) × (s ≤ 8) ⌝ }
+    ensures { λ r. ⌜ Corrected n t (now (reps .entry)) (now (w .entry)) (now (list .exit)) r ⌝ }
 {
-    let mut e = [0u16; 1024];
+    let mut e = [0u16; 1280];
     let mut g = [0u16; 256];
     fill(s, &mut e, &mut g);
-    by_tables(n, s, t, c, reps, &e, &g, w)
+    by_tables(n, s, t, c, reps, &e, &g, list, w)
 }
 
 fn by_large_tables(
@@ -144,31 +147,33 @@ fn by_large_tables(
     t: usize,
     c: Certificate,
     reps: &[u8],
-    w: &mut [u8],
+    list: &mut [u8],
+    w: &[u8],
 ) -> Correction
-    requires { ⌜ Given n s t c (now reps) × Held n (now w) ⌝ }
-    ensures { λ r. ⌜ Corrected n t (now (reps .entry)) (now (w .entry)) (now (w .exit)) r ⌝ }
+    requires { ⌜ Given n s t c (now reps) × Held n (now w) × (n ≤ length (now list)) ⌝ }
+    ensures { λ r. ⌜ Corrected n t (now (reps .entry)) (now (w .entry)) (now (list .exit)) r ⌝ }
 {
-    let mut e = [0u16; 16384];
+    let mut e = [0u16; 20480];
     let mut g = [0u16; 4096];
     fill(s, &mut e, &mut g);
-    by_tables(n, s, t, c, reps, &e, &g, w)
+    by_tables(n, s, t, c, reps, &e, &g, list, w)
 }
 
-// The codeword within t places of w in its place, if there is one.
+// The places, as a list, that turn w into the codeword within t places of it, if there is one.
 pub fn correct_word(
     n: usize,
     s: usize,
     t: usize,
     c: Certificate,
     reps: &[u8],
-    w: &mut [u8],
+    list: &mut [u8],
+    w: &[u8],
 ) -> Correction
-    requires { ⌜ Given n s t c (now reps) × Held n (now w) ⌝ }
-    ensures { λ r. ⌜ Corrected n t (now (reps .entry)) (now (w .entry)) (now (w .exit)) r ⌝ }
+    requires { ⌜ Given n s t c (now reps) × Held n (now w) × (n ≤ length (now list)) ⌝ }
+    ensures { λ r. ⌜ Corrected n t (now (reps .entry)) (now (w .entry)) (now (list .exit)) r ⌝ }
 {
     if s <= 8 {
-        return by_small_tables(n, s, t, c, reps, w);
+        return by_small_tables(n, s, t, c, reps, list, w);
     }
-    by_large_tables(n, s, t, c, reps, w)
+    by_large_tables(n, s, t, c, reps, list, w)
 }

@@ -12,7 +12,7 @@ use Rattle.field.specs.Field.{Degree, OddLength}
 use Rattle.tables.specs.Tables.{Room}
 use Rattle.field.proofs.Primitive.{Degree-bounds}
 
-pub room : {s : ℕ} {e g : List ℕ} → Degree s → 16380 ≤ length e → 4096 ≤ length g → Room s e g
+pub room : {s : ℕ} {e g : List ℕ} → Degree s → 20475 ≤ length e → 4096 ≤ length g → Room s e g
 room {s} d h k =
     let b : 2 ^ s ≤ 4096 = Degree-bounds d .1 in record { degree = d; e-long = omega arith; g-long = omega arith }
 

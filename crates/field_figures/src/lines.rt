@@ -27,7 +27,7 @@ fn end() {
 fn product_sums(s: usize) -> Sums
     requires { ⌜ Degree s ⌝ }
 {
-    let mut e = [0u16; 16380];
+    let mut e = [0u16; 20475];
     let mut g = [0u16; 4096];
     tables::fill::fill(s, &mut e, &mut g);
     if s <= 8 {
@@ -56,7 +56,7 @@ struct TableSums {
 fn table_sums(s: usize) -> TableSums
     requires { ⌜ Degree s ⌝ }
 {
-    let mut e = [0u16; 16380];
+    let mut e = [0u16; 20475];
     let mut g = [0u16; 4096];
     tables::fill::fill(s, &mut e, &mut g);
     TableSums {

@@ -26,7 +26,9 @@ use Rattle.locating.specs.Terms.{lanes, termSum, Listed}
 use Rattle.tables.proofs.Exponents.{power-mod}
 use Rattle.locating.proofs.Residue.{power-zero, residue, residue-z, residue-s}
 use Rattle.locating.proofs.TermSums.{sum-z, sum-s, sum-ext}
-use Rattle.locating.proofs.Lanes.{lane, lane-add, lane-times}
+use Rattle.evaluation.specs.Lanes.{lane}
+use Rattle.evaluation.proofs.Lanes.{lane-add}
+use Rattle.locating.proofs.Lanes.{lane-mask}
 
 -- r says whether there is a term
 pub record Entry (s back k c x l at r : ℕ) (lam lg st : List ℕ) : Type 0 where
@@ -172,6 +174,6 @@ module _ {s back k c x l at r : ℕ} {lam lg st : List ℕ} (n : Entry s back k 
           ∙ ap₂ _⊕_ (ap (λ (a : ℕ). lane j (v ⊕ a)) (kept i) ∙ w .sum i j b)
           (ap₂ (λ (a z : ℕ). lane j (a * fieldPower s ω z)) (getD-set-same co c e 0 h ∙ e-is)
           (ap₂ (λ (a z : ℕ). a + i * z) (getD-set-same lg c l 0 (n .lg-room)) (getD-set-same st c at 0 (n .st-room)))
-          ∙ lane-times (y / 2 ^ o) p p-lt j b
+          ∙ lane-mask (y / 2 ^ o) p p-lt j b
           ∙ ap₂ _*_ (ap (λ (a : ℕ). a % 2) (shr-shr y o j)) (power-at q i))
           ∙ sym (next i j)

@@ -1,7 +1,7 @@
 -- The search as a whole: f(α^(i z) x) divides the locator exactly where f divides the locator at α^(i (n - z)) x.
 --
---   powered, length-le, walkable, multiple-lt, multiple-fits      what the parts need
---   changed           and what they say together
+--   length-le, walkable, multiple-lt, multiple-fits      what the parts need
+--   located           and what they say together
 use mathlib.Core.Path.{_≡_, refl, sym, ap, _∙_, subst}
 use mathlib.Core.Logic.{_↔_}
 use mathlib.Core.Bool.{Bool, true, false}
@@ -17,21 +17,13 @@ use Rattle.field.proofs.Elements.{GF, gen, root, root-order}
 use Rattle.cyclic.proofs.Lift.{lift}
 use Rattle.tables.specs.Tables.{Tables}
 use Rattle.sheet.specs.Stage.{bit}
-use Rattle.syndrome.proofs.Computing.{root-lt}
+use Rattle.evaluation.proofs.Roots.{root-lt}
 use Rattle.poly.specs.Slice.{series}
-use Rattle.tables.specs.Tables.{Powered}
 use Rattle.locating.specs.Terms.{vanishes, Walkable, Walked, vanishesAlone}
-use Rattle.locating.specs.Change.{hits, Found, Search, Changed}
+use Rattle.locating.specs.Locate.{hits, Found, Search, Located}
 use Rattle.locating.proofs.Reduction.{divides-substituted}
 use Rattle.locating.proofs.TermSums.{alone-is}
 use Rattle.locating.proofs.Finding.{hits-lt, hits-at}
-
-pub powered : {s : ℕ} {e g : List ℕ} → Tables s e g → Powered s e
-powered t = record {
-  degree = t .degree;
-  e-long = t .e-long;
-  powers = record { at = λ k h. t .e-at k (omega (arith, t .e-long)) };
-}
 
 bit-one : (b : Bool) → ((b ≡ true) ↔ (bit b ≡ 1))
 bit-one true = (λ e. refl, λ e. refl)
@@ -43,7 +35,7 @@ divides {n} o e = subst (λ (t : ℕ). n ∣ 2 ^ t - 1) (sym e) (order-divides o
 pub length-le : {n s : ℕ} {e g : List ℕ} → OddLength n → s ≡ orderOfTwo n → Tables s e g → n ≤ 2 ^ s - 1
 length-le o e t = le-of-dvd (omega (arith, t .four)) (divides o e)
 
-pub walkable : {n s z f u len back : ℕ} {lam e g lg st lo hi w : List ℕ} → Search n s z f u len lam e g lg st lo hi w
+pub walkable : {n s z f u len back : ℕ} {lam e g lg st lo hi list : List ℕ} → Search n s z f u len lam e g lg st lo hi list
     → back < 2 ^ s - 1 → Walkable s back f u len lam g lg st lo hi
 walkable p h = record {
   degree = p .tables .degree;
@@ -54,7 +46,7 @@ walkable p h = record {
   locator = p .locator;
 }
 
-module _ {n s z f u len q : ℕ} {lam e g lg st lo hi w : List ℕ} (p : Search n s z f u len lam e g lg st lo hi w)
+module _ {n s z f u len q : ℕ} {lam e g lg st lo hi list : List ℕ} (p : Search n s z f u len lam e g lg st lo hi list)
     (q-is : q ≡ (2 ^ s - 1) / n) where
   pub multiple-lt : {r : ℕ} → r < n → r * q < 2 ^ s - 1
   multiple-lt {r} = root-lt (p .odd) (p .s-is) (p .tables .degree) q-is r
@@ -75,9 +67,9 @@ module _ {n s z f u len q : ℕ} {lam e g lg st lo hi w : List ℕ} (p : Search 
       ∙ sym (pow-add (GF d) (root d n) (i * z) (i * (n - z)))
       ∙ ap (pow (GF d) (root d n)) round ∙ pow-multiple (GF d) (root d n) n (root-order d n (divides (p .odd) (p .s-is))) i
 
-  pub changed : {t c r : ℕ} {lg′ st′ lo′ hi′ w′ : List ℕ} → Walked s ((n - z) * q) f u lam lg′ st′ lo′ hi′ c
-      → Found n t (hits n (vanishes s (getD lam 0 0) c lg′ st′ lo′ hi′)) w w′ r → Changed n s z f t lam w w′ r
-  changed {t} {c} {r} {lg′} {st′} {lo′} {hi′} {w′} v x = record {
+  pub located : {t c r : ℕ} {lg′ st′ lo′ hi′ list′ : List ℕ} → Walked s ((n - z) * q) f u lam lg′ st′ lo′ hi′ c
+      → Found n t (hits n (vanishes s (getD lam 0 0) c lg′ st′ lo′ hi′)) list′ r → Located n s z f t lam list′ r
+  located {t} {c} {r} {lg′} {st′} {lo′} {hi′} {list′} v x = record {
     places = hits n test;
     small = hits-lt n test;
     means = λ d i h.
@@ -92,8 +84,8 @@ module _ {n s z f u len q : ℕ} {lam e g lg st lo hi w : List ℕ} (p : Search 
       test = vanishes s (getD lam 0 0) c lg′ st′ lo′ hi′
 
   -- the same for f = 1 + x
-  pub changed-alone : {t c r : ℕ} {lg′ st′ lo′ hi′ w′ : List ℕ} → Walked s ((n - z) * q) f u lam lg′ st′ lo′ hi′ c → u ≡ 1
-      → Found n t (hits n (vanishesAlone s (getD lam 0 0) c lg′ st′)) w w′ r → Changed n s z f t lam w w′ r
-  changed-alone {t} {c} {r} {lg′} {st′} {w′ = w′} v e x =
-      changed v
-      (subst (λ (test : ℕ → Bool). Found n t (hits n test) w w′ r) (alone-is s (getD lam 0 0) lg′ st′ (v .laned) e) x)
+  pub located-alone : {t c r : ℕ} {lg′ st′ lo′ hi′ list′ : List ℕ} → Walked s ((n - z) * q) f u lam lg′ st′ lo′ hi′ c → u ≡ 1
+      → Found n t (hits n (vanishesAlone s (getD lam 0 0) c lg′ st′)) list′ r → Located n s z f t lam list′ r
+  located-alone {t} {c} {r} {lg′} {st′} {list′ = list′} v e x =
+      located v
+      (subst (λ (test : ℕ → Bool). Found n t (hits n test) list′ r) (alone-is s (getD lam 0 0) lg′ st′ (v .laned) e) x)

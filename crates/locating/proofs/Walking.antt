@@ -35,7 +35,9 @@ use Rattle.poly.specs.Slice.{Short, series}
 use Rattle.locating.specs.Terms.{lanes, termSum, vanishes, Listed, Walkable, Walked}
 use Rattle.locating.proofs.Residue.{power-zero, residue, residue-high, divides-residues}
 use Rattle.locating.proofs.TermSums.{sum-z, sum-s, weight-fits}
-use Rattle.locating.proofs.Lanes.{lane, lanes-le, lane-zero, lane-low, lanes-null}
+use Rattle.evaluation.specs.Lanes.{spaced, lane}
+use Rattle.evaluation.proofs.Lanes.{lane-zero, lanes-null}
+use Rattle.locating.proofs.Lanes.{lanes-le, lane-low}
 use Rattle.locating.proofs.Entries.{Entry, Word, listed-start, listed-more, word-start, word-more}
 
 pub record Walking (s back f u k : ℕ) (lam lg st lo hi : List ℕ) (c at y : ℕ) : Type 0 where
@@ -152,7 +154,7 @@ one-left {f} {u} m e i =
     ap₂ (λ (v w : ℕ). remainder v w (2 ^ i)) e three ∙ three-left i
 
 one-lane : (lanes (1 / 2 ^ 0) ≡ 1) × (lanes (1 / 2 ^ 4) ≡ 0)
-unfolding lanes total
+unfolding lanes spaced total
 one-lane = (refl, refl)
 
 module _ {s back f u len k c at y : ℕ} {lam g lg₀ st₀ lo₀ hi₀ lg st lo hi : List ℕ}

@@ -1,2 +1,2 @@
 pub mod Terms
-pub mod Change
+pub mod Locate

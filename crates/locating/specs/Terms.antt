@@ -3,7 +3,7 @@
 --   lanes y                 the lowest four coefficients of the mask y, 16 places apart
 --   termSum s lg st κ i c   the sum of κ m ω^(lg m + i st m) over the terms m below c
 --   vanishes                whether all coefficients of the remainder at place i are 0: a lane of two such sums for each
---   vanishesAlone           the same for f = 1 + x
+--   aloneAt, vanishesAlone  the same for f = 1 + x: the one coefficient of the remainder
 --   Locator                 a locator of at most len coefficients, and room for its terms
 --   Walkable, Walked        the locator's terms: what listing them needs, and leaves
 --   Listed s c lg st        logarithms and steps of c terms
@@ -20,17 +20,17 @@ use Rattle.algebra.proofs.Power.{pow}
 use Rattle.algebra.proofs.Coprime.{Divides}
 use Rattle.algebra.proofs.Poly.{Polys}
 use Rattle.algebra.proofs.Substitute.{sub}
-use Rattle.field.specs.Search.{total}
 use Rattle.field.specs.Mask.{_⊕_, coefficient}
 use Rattle.field.specs.Field.{Degree, ω, fieldPower, logarithm}
 use Rattle.field.proofs.Elements.{GF, gen}
 use Rattle.cyclic.proofs.Lift.{lift}
 use Rattle.masks.specs.Factor.{Modulus}
 use Rattle.tables.specs.Tables.{Powered}
+use Rattle.evaluation.specs.Lanes.{spaced}
 use Rattle.poly.specs.Slice.{Small, Short, series}
 
 unfoldable pub lanes : ℕ → ℕ
-lanes y = total 4 (λ j. coefficient j y * 2 ^ (16 * j))
+lanes y = spaced (λ j. coefficient j y)
 
 unfoldable pub termSum : ℕ → (lg st : List ℕ) → (ℕ → ℕ) → (i c : ℕ) → ℕ
 termSum s lg st κ i zero = 0
@@ -38,8 +38,11 @@ termSum s lg st κ i (suc m) = termSum s lg st κ i m ⊕ κ m * fieldPower s ω
 
 -- the constant term of the locator is `first`
 -- for f = 1 + x the remainder is one coefficient
+unfoldable pub aloneAt : (s first c : ℕ) (lg st : List ℕ) → ℕ → ℕ
+aloneAt s first c lg st i = first ⊕ termSum s lg st (λ m. 1) i c
+
 unfoldable pub vanishesAlone : (s first c : ℕ) (lg st : List ℕ) → ℕ → Bool
-vanishesAlone s first c lg st i = eqb (first ⊕ termSum s lg st (λ m. 1) i c) 0
+vanishesAlone s first c lg st i = eqb (aloneAt s first c lg st i) 0
 
 unfoldable pub vanishes : (s first c : ℕ) → (lg st lo hi : List ℕ) → ℕ → Bool
 vanishes s first c lg st lo hi i =

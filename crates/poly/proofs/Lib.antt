@@ -2,4 +2,5 @@
 pub mod Slices
 pub mod Adding
 pub mod Reducing
+pub mod TwoTerms
 pub mod State

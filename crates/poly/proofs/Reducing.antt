@@ -2,7 +2,8 @@
 --
 --   inverse-there, inverse-at          a leading coefficient has an inverse, at the logarithm that the tables give
 --   quotient-lt, addable-a, addable-w  the term of the quotient fits: bounds of its logarithm, room in both slices
---   cancelled                          it takes the leading coefficient away
+--   struck                             it takes the leading coefficient of any polynomial away
+--   leading-below, leading-is, cancelled      that of a: a has no higher one, it is ω^i, and it is taken away
 --   reduced-one, reduced-none, reduced-more      one term, none, and one after others
 --   reducible-on                       what is left can be divided on
 use mathlib.Core.Path.{_≡_, sym, ap, ap₂, _∙_, subst}
@@ -17,7 +18,7 @@ use Rattle.algebra.proofs.Series.{Ser}
 use Rattle.algebra.proofs.Poly.{Below, Below·weaken, Below·zero, Below·add, mono, mono-below}
 use Rattle.algebra.proofs.Divide.{Deg, lead, lead-below}
 use Rattle.field.specs.Field.{Degree, ω, fieldMultiply, fieldPower, logarithm, inverses}
-use Rattle.field.proofs.Elements.{GF, isField, el, el-mul}
+use Rattle.field.proofs.Elements.{F, GF, isField, el, el-mul}
 use Rattle.field.proofs.Numbers.{power-add, power-lt, multiply-one, multiply-assoc, multiply-comm, multiply-zero, el-ne}
 use Rattle.field.proofs.Numbers.{logarithm-lt, logarithm-is, inverses-of, inverse-is}
 use Rattle.poly.specs.Slice.{Short, series}
@@ -58,9 +59,30 @@ top-is {s} {k} {b} d i v =
     ap (λ (x : ℕ). fieldMultiply s x b) (sym (power-add d ω i k)) ∙ multiply-assoc d (fieldPower s ω i) (fieldPower s ω k) b
     ∙ ap (fieldMultiply s (fieldPower s ω i)) (v .is) ∙ multiply-one d (fieldPower s ω i) (power-lt d ω i)
 
+-- where P has the leading coefficient ω^i
+pub struck : {s la lb lv k : ℕ} {a b w v e g : List ℕ} → Reducible s la lb lv a b w v e g → InverseAt s k (getD b (lb - 1) 0)
+    → (d : Degree s) (i j : ℕ) {m : ℕ} {P : ℕ → F s} → j + lb ≡ suc m → Below (GF d) (suc m) P → P m ≡ el d (fieldPower s ω i)
+    → Below (GF d) m (plus d P (mono (GF d) j (el d (fieldPower s ω (i + k)))) (series d b))
+unfolding series
+struck {s} {la} {lb} {lv} {k} {a} {b} p o d i j {m} {P} h below top =
+    subst (Below (GF d) m) (sym is) (lead-below (GF d) (isField d) (omega arith) below b-deg)
+  where
+    b-deg : Deg (GF d) (lb - 1) (series d b)
+    b-deg = record {
+      below = below-of d (omega arith) (p .b-length .short);
+      top = el-ne d _ (p .b-small .at (lb - 1)) (p .b-length .leading (p .b-pos));
+    }
+
+    c-is : el d (fieldPower s ω (i + k)) ≡ GF d .mul (P m) (isField d .inv (series d b (lb - 1)))
+    c-is = quotient-is (GF d) (isField d) _ _ _ (b-deg .top) (sym (el-mul d _ _) ∙ ap (el d) (top-is d i o) ∙ sym top)
+
+    is : plus d P (mono (GF d) j (el d (fieldPower s ω (i + k)))) (series d b)
+        ≡ plus d P (lead (GF d) (isField d) m (lb - 1) P (series d b)) (series d b)
+    is = let q : j ≡ m - (lb - 1) = omega (arith, p .b-pos) in ap₂ (λ n c. plus d P (mono (GF d) n c) (series d b)) q c-is
+
 module _ {s la lb lv k : ℕ} {a b w v e g : List ℕ} (p : Reducible s la lb lv a b w v e g) (l : lb ≤ la)
     (o : InverseAt s k (getD b (lb - 1) 0)) {i : ℕ} (i-is : i ≡ logarithm s (getD a (la - 1) 0)) where
-  d : Degree s
+  abbrev d : Degree s
   d = p .tables .degree
 
   a-ne : getD a (la - 1) 0 ≢ 0
@@ -93,31 +115,16 @@ module _ {s la lb lv k : ℕ} {a b w v e g : List ℕ} (p : Reducible s la lb lv
     b-long = p .v-long;
   }
 
-  -- the term is the quotient of the leading coefficients
-  pub cancelled : {a′ : List ℕ} → Added s (la - lb) (i + k) a b a′ → Short (la - 1) a′
+  pub leading-below : Below (GF d) (suc (la - 1)) (series d a)
+  leading-below = below-of d (omega arith) (p .a-length .short)
+
+  pub leading-is : series d a (la - 1) ≡ el d (fieldPower s ω i)
   unfolding series
-  cancelled {a′} z =
-      short-of d (z .small)
-      (subst (Below (GF d) (la - 1)) (sym a′-is) (lead-below (GF d) (isField d) (omega arith) a-below b-deg))
-    where
-      a-below : Below (GF d) (suc (la - 1)) (series d a)
-      a-below = below-of d (omega arith) (p .a-length .short)
+  leading-is = sym (ap (el d) (ap (fieldPower s ω) i-is ∙ logarithm-is d _ (p .a-small .at (la - 1)) a-ne))
 
-      b-deg : Deg (GF d) (lb - 1) (series d b)
-      b-deg = record {
-        below = below-of d (omega arith) (p .b-length .short);
-        top = el-ne d _ (p .b-small .at (lb - 1)) (p .b-length .leading (p .b-pos));
-      }
-
-      c-is : el d (fieldPower s ω (i + k)) ≡ GF d .mul (series d a (la - 1)) (isField d .inv (series d b (lb - 1)))
-      c-is = quotient-is (GF d) (isField d) _ _ _ (b-deg .top)
-          (sym (el-mul d _ _)
-          ∙ ap (el d) (top-is d i o ∙ ap (fieldPower s ω) i-is ∙ logarithm-is d _ (p .a-small .at (la - 1)) a-ne))
-
-      a′-is : series d a′ ≡ plus d (series d a) (lead (GF d) (isField d) (la - 1) (lb - 1) (series d a) (series d b)) (series d b)
-      a′-is =
-          let q : la - lb ≡ la - 1 - (lb - 1) = omega (arith, p .b-pos) in
-          z .is d ∙ ap₂ (λ j c. plus d (series d a) (mono (GF d) j c) (series d b)) q c-is
+  pub cancelled : {a′ : List ℕ} → Added s (la - lb) (i + k) a b a′ → Short (la - 1) a′
+  cancelled z =
+      short-of d (z .small) (subst (Below (GF d) (la - 1)) (sym (z .is d)) (struck p o d i (la - lb) (omega arith) leading-below leading-is))
 
   pub reduced-one : {a′ w′ : List ℕ} {r : ℕ} → Added s (la - lb) (i + k) a b a′ → Added s (la - lb) (i + k) w v w′ → LengthOf a′ r
       → Reduced s (la - lb) a b w v a′ w′ r
@@ -137,7 +144,7 @@ module _ {s la lb lv k : ℕ} {a b w v e g : List ℕ} (p : Reducible s la lb lv
 none-added : {A : Type 0} (R : Ring A) (p r : A) → p ≡ R .add p (R .mul (R .𝟘) r)
 none-added R p r = simp ring
 
-more-added : {A : Type 0} (R : Ring A) (p q m r : A)
+pub more-added : {A : Type 0} (R : Ring A) (p q m r : A)
     → R .add (R .add p (R .mul q r)) (R .mul m r) ≡ R .add p (R .mul (R .add q m) r)
 more-added R p q m r = simp ring
 

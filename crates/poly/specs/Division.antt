@@ -3,8 +3,10 @@
 --   plus d p q r              the series p + q r
 --   Addable s i k n a b e g   what adding ω^k x^i b to a asks for, where b has n coefficients
 --   Added s i k a b a′        a′ = a + ω^k x^i b
+--   AddedTwo s i k₀ k₁ a b a′ a′ = a + (ω^k₁ x + ω^k₀) x^i b
 --   LengthOf a r              r is one more than the degree of a, and 0 where a is 0
 --   InverseAt s k c           ω^k is the inverse of c
+--   Second s k la lb a b c    c is the second coefficient from the top of a + ω^k x^(la - lb) b, and a is longer than b
 --   Reducible ..              the row (a, w) can be divided by the row (b, v)
 --   Division d k ..           one hidden quotient, of degree at most k, leads from (a, w) to (a′, w′)
 --   Reduced ..                what that leaves, and the length r of a′
@@ -15,6 +17,7 @@ use Prim.Native.Nat.{ℕ, suc, _+_, _-_, _*_, _^_, _≤_, _<_}
 use lib.ListN.{length, getD}
 use Rattle.algebra.proofs.Series.{Ser}
 use Rattle.algebra.proofs.Poly.{Below, mono}
+use Rattle.field.specs.Mask.{_⊕_}
 use Rattle.field.specs.Field.{Degree, ω, fieldMultiply, fieldPower}
 use Rattle.field.proofs.Elements.{F, GF, el}
 use Rattle.tables.specs.Tables.{Tables}
@@ -37,6 +40,13 @@ pub record Added (s i k : ℕ) (a b a′ : List ℕ) : Type 0 where
   pub small : Small s a′
   pub is : (d : Degree s) → series d a′ ≡ plus d (series d a) (mono (GF d) i (el d (fieldPower s ω k))) (series d b)
 
+pub record AddedTwo (s i k₀ k₁ : ℕ) (a b a′ : List ℕ) : Type 0 where
+  pub small : Small s a′
+  pub is : (d : Degree s)
+      → series d a′
+      ≡ plus d (plus d (series d a) (mono (GF d) (i + 1) (el d (fieldPower s ω k₁))) (series d b))
+      (mono (GF d) i (el d (fieldPower s ω k₀))) (series d b)
+
 pub record LengthOf (a : List ℕ) (r : ℕ) : Type 0 where
   pub short : Short r a
   pub leading : 0 < r → getD a (r - 1) 0 ≢ 0
@@ -44,6 +54,11 @@ pub record LengthOf (a : List ℕ) (r : ℕ) : Type 0 where
 pub record InverseAt (s k c : ℕ) : Type 0 where
   pub k-lt : k < 2 ^ s - 1
   pub is : fieldMultiply s (fieldPower s ω k) c ≡ 1
+
+pub record Second (s k la lb : ℕ) (a b : List ℕ) (c : ℕ) : Type 0 where
+  pub longer : lb < la
+  pub b-two : 1 < lb
+  pub is : c ≡ getD a (la - 2) 0 ⊕ fieldMultiply s (fieldPower s ω k) (getD b (lb - 2) 0)
 
 -- ---- a whole quotient
 pub record Reducible (s la lb lv : ℕ) (a b w v e g : List ℕ) : Type 0 where

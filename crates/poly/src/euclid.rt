@@ -1,14 +1,17 @@
 // Euclid's algorithm on rows: a row is a remainder with its cofactor, (a, w) or (b, v).
+ghost use mathlib.Core.Logic.{_≢_};
 ghost use Prim.Native.Nat.{_-_, _<_, _≤_};
 ghost use lib.ListN.{getD};
-ghost use Rattle.poly.specs.Division.{Reducible, Reduced, InverseAt};
+ghost use Rattle.poly.specs.Division.{Addable, Second, Reducible, Reduced, InverseAt};
 ghost use Rattle.poly.specs.Key.{Solvable, Outcome};
 use crate::row::add_scaled;
+use crate::row::add_two;
 use crate::row::length_of;
 use crate::types::Locator;
 use field::types::Quotient;
 use tables::product::inverse;
 use tables::product::log;
+use tables::product::scaled;
 
 // One term of the quotient: the multiple of (b, v) that takes a's leading coefficient away is added to (a, w), where ω^k is
 // the inverse of b's leading coefficient. The length that a has then.
@@ -38,6 +41,63 @@ fn cancel_leading(
     length_of(a, la - 1)
 }
 
+// The second coefficient from the top of a + ω^k x^(la - lb) b, which a second term of the quotient takes away. It is 0 also where
+// only one term is taken: a is as long as b, or b is a constant.
+fn second_leading(
+    s: usize,
+    k: usize,
+    a: &[u16],
+    la: usize,
+    b: &[u16],
+    lb: usize,
+    e: &[u16],
+    g: &[u16],
+) -> u16
+    requires { ⌜ Addable s (la - lb) k lb (now a) (now b) (now e) (now g) × (lb ≤ la) ⌝ }
+    ensures { λ r. ⌜ (r ≢ 0 → Second s k la lb (now (a .entry)) (now (b .entry)) r) ⌝ }
+{
+    if la == lb {
+        return 0;
+    }
+    if lb < 2 {
+        return 0;
+    }
+    let y = scaled(s, k, b[lb - 2], e, g);
+    a[la - 2] ^ y
+}
+
+// Two terms of the quotient in one pass where there is a second one, and else one: in most divisions of Euclid's algorithm
+// a is longer than b by one, so that two are all. The length that a has then.
+fn cancel_terms(
+    s: usize,
+    a: &mut [u16],
+    la: usize,
+    b: &[u16],
+    lb: usize,
+    w: &mut [u16],
+    v: &[u16],
+    lv: usize,
+    k: usize,
+    e: &[u16],
+    g: &[u16],
+) -> usize
+    requires { ⌜ Reducible s la lb lv (now a) (now b) (now w) (now v) (now e) (now g) × (lb ≤ la)
+        × InverseAt s k (getD (now b) (lb - 1) 0) ⌝ }
+    ensures { λ r. ⌜ (r < la) × Reduced s (la - lb) (now (a .entry)) (now (b .entry)) (now (w .entry)) (now (v .entry))
+        (now (a .exit)) (now (w .exit)) r ⌝ }
+{
+    let k1 = log(s, a[la - 1], e, g) + k;
+    let y = second_leading(s, k1, a, la, b, lb, e, g);
+    if y == 0 {
+        return cancel_leading(s, a, la, b, lb, w, v, lv, k, e, g);
+    }
+    let k0 = log(s, y, e, g) + k;
+    let i = la - lb - 1;
+    add_two(s, a, i, k0, k1, b, lb, e, g);
+    add_two(s, w, i, k0, k1, v, lv, e, g);
+    length_of(a, la - 2)
+}
+
 // The row (a, w) is divided by (b, v): the length of the remainder. A leading coefficient is not 0, so its inverse is there.
 fn reduce(
     s: usize,
@@ -62,7 +122,7 @@ fn reduce(
     let k = log(s, x, e, g);
     let mut la = alen;
     while lb <= la {
-        la = cancel_leading(s, a, la, b, lb, w, v, lv, k, e, g);
+        la = cancel_terms(s, a, la, b, lb, w, v, lv, k, e, g);
     }
     la
 }

@@ -3,14 +3,17 @@
 --   readable, given, held      the working certificate keeps rules 1 to 4, and the places of the word
 --   decode-word, decode-out, decode-spare      lengths and spare bits
 --   decode-far        no codeword within t places
---   decode-done       the codeword, with the number of changed places; done-holds: the places that are packed
+--   repairable        the listed places are of the word
+--   decode-done       the codeword, with the number of changed places
 use mathlib.Core.Path.{_≡_, refl, sym, ap, ap₂, _∙_, subst}
 use mathlib.Core.Logic.{_≢_}
 use mathlib.Core.Bool.{true, false}
 use mathlib.Core.List.{List, [], _∷_}
-use Prim.Native.Nat.{ℕ, _+_, _-_, _^_, _≤_, _<_}
+use Prim.Native.Nat.{ℕ, _+_, _-_, _*_, _^_, _≤_, _<_}
+use native.Mathlib.Decide.{decLt}
 use native.Mathlib.Omega.{arith}
 use lib.ListN.{length, getD, take, drop, replicate, length-replicate}
+use Rattle.field.specs.Mask.{_⊕_, coefficient}
 use Rattle.field.specs.Field.{orderOfTwo}
 use Rattle.document.specs.Answer.{returned, refused}
 use Rattle.document.specs.Layout.{wordWeight, bytesFor, maskOf, bytesOf, spare}
@@ -31,9 +34,10 @@ use Rattle.distance.proofs.Rules.{Sound}
 use Rattle.distance.proofs.Sheets as Sheets
 use Rattle.distance.proofs.Decoding as Decoding
 use Rattle.binary.specs.Bits.{Holds}
-use Rattle.word.specs.Place.{Spread, Packed}
-use Rattle.word.proofs.Places.{word-weights, mask-lt}
-use Rattle.word.proofs.Spreading.{packed-is}
+use Rattle.evaluation.proofs.Listing.{listed-mask}
+use Rattle.word.specs.Place.{Spread}
+use Rattle.word.proofs.Places.{word-weights, mask-lt, mask-coefficient, mask-above, spare-none, bytes-same, for-le}
+use Rattle.repair.specs.Repair.{Places as PlacesOf, Repairable, Repaired}
 use Rattle.codeword.specs.Room.{Usable, Recorded}
 use Rattle.codeword.proofs.Words.{length-of, part-is, generator-is, checks-is, word-holds, zeros}
 use Rattle.decoding.specs.declared.types.Correction.{Correction}
@@ -101,14 +105,20 @@ module _ {sheet : List ℕ} {n k s working t : ℕ} (u : Usable sheet n k s) (re
   unfolding radiusOf
   t-is = rec .t-is
 
-  at-sheet : {r : ℕ} {w w′ : List ℕ} {answer : Correction} → r ≡ byteAt sheet 3 → Corrected n t (part r) w w′ answer
-      → Corrected n t (representatives sheet) w w′ answer
-  at-sheet {w = w} {w′} {answer} er y = subst (λ (reps : List ℕ). Corrected n t reps w w′ answer) (part-is u er) y
+  at-sheet : {r : ℕ} {w list : List ℕ} {answer : Correction} → r ≡ byteAt sheet 3 → Corrected n t (part r) w list answer
+      → Corrected n t (representatives sheet) w list answer
+  at-sheet {w = w} {list} {answer} er y = subst (λ (reps : List ℕ). Corrected n t reps w list answer) (part-is u er) y
 
-  -- the places that are packed
-  pub done-holds : {m : ℕ} {reps word w w′ : List ℕ} {answer : Correction} → Spread wordWeight 0 0 n word (replicate 144 0) w
-      → Corrected n t reps w w′ answer → placesOf answer ≡ m ∷ [] → (c : ℕ) × Holds c w′
-  done-holds {word = word} a y e = let f = y .found (word-holds n a (zeros 144)) (mask-lt wordWeight n word) e in (f .0, f .4)
+  pub repairable : {m : ℕ} {reps word w list out : List ℕ} {answer : Correction} → Spread wordWeight 0 0 n word (replicate 144 0) w
+      → Corrected n t reps w list answer → placesOf answer ≡ m ∷ [] → length word ≡ bytesFor n → length out ≡ bytesFor n → length list ≡ 128
+      → Repairable word list m out
+  repairable {word = word} a y e lw lo ll =
+      let f = y .found (word-holds n a (zeros 144)) (mask-lt wordWeight n word) e .5 in
+      record {
+        long = lo ∙ sym lw;
+        listed = omega (arith, f .le, ll, u .n-is, u .head .most);
+        below = λ k h. omega (arith, f .below k h, for-le n, lw);
+      }
 
   module _ (word out : List ℕ) where
     abbrev value : List ℕ
@@ -158,20 +168,32 @@ module _ {sheet : List ℕ} {n k s working t : ℕ} (u : Usable sheet n k s) (re
           there : (c : ℕ) → differences n (maskOf wordWeight n word) c ≡ differences (codeLength sheet) (wordOf sheet word) c
           there c = ap (λ (m : ℕ). differences m (maskOf wordWeight m word) c) (u .n-is)
 
-          pub decode-far : {w′ : List ℕ} {answer : Correction} → Corrected n t (part r) w w′ answer → placesOf answer ≡ []
+          pub decode-far : {list : List ℕ} {answer : Correction} → Corrected n t (part r) w list answer → placesOf answer ≡ []
               → (refused 13, out) ≡ decodeOf sheet word out
           decode-far y e =
               Decoding.decode-none sheet accepted word out received
               (λ c x. subst (λ (m : ℕ). m < differences (codeLength sheet) (wordOf sheet word) c) t-is
               (subst (λ (m : ℕ). t < m) (there c) (at-sheet er y .none holds (mask-lt wordWeight n word) e c (of-sheet x))))
 
-          pub decode-done : {w′ out′ : List ℕ} {answer : Correction} {m : ℕ} → Corrected n t (part r) w w′ answer → placesOf answer ≡ m ∷ []
-              → Packed wordWeight w′ out′ → length out′ ≡ length out → ((i : ℕ) → getD out′ i 0 < 256)
+          places : PlacesOf (maskOf wordWeight n word) word
+          places = record {
+            at = λ i h. elim (decLt i n) [
+              | yes b ↦ sym (mask-coefficient wordWeight n word i b)
+              | no b ↦ spare-none wordWeight n word d i (omega arith) (omega (arith, a)) ∙ sym (mask-above wordWeight n word i (omega arith))
+            ];
+          }
+
+          pub decode-done : {list out′ : List ℕ} {answer : Correction} {m : ℕ} → Corrected n t (part r) w list answer → placesOf answer ≡ m ∷ []
+              → Repaired word list m out′ → length out′ ≡ length out → ((i : ℕ) → getD out′ i 0 < 256)
               → (returned (m ∷ []), out′) ≡ decodeOf sheet word out
-          decode-done {m = m} y e p long bytes =
+          decode-done {out′ = out′} {m = m} y e p long bytes =
               let f = at-sheet er y .found holds (mask-lt wordWeight n word) e in
-              let q : m ≡ differences (codeLength sheet) (wordOf sheet word) (f .0) = f .2 ∙ there (f .0) in
-              ap₂ (λ (v : ℕ) (o : List ℕ). (returned (v ∷ []), o)) q
-              (packed-is word-weights n p (f .4) (long ∙ b) bytes ∙ ap (λ (i : ℕ). bytesOf wordWeight i (f .0)) (u .n-is))
+              let c : ℕ = maskOf wordWeight n word ⊕ f .0 in
+              let q : m ≡ differences (codeLength sheet) (wordOf sheet word) c = f .2 ∙ there c in
+              let o : out′ ≡ bytesOf wordWeight n c =
+              bytes-same word-weights n c out′ (long ∙ b) bytes
+              (λ i h. p .at (maskOf wordWeight n word) places .at i (omega (arith, long, b))
+              ∙ ap (λ (x : ℕ). coefficient i (maskOf wordWeight n word ⊕ x)) (listed-mask (f .0) (f .4) (f .5))) in
+              ap₂ (λ (v : ℕ) (o : List ℕ). (returned (v ∷ []), o)) q (o ∙ ap (λ (i : ℕ). bytesOf wordWeight i c) (u .n-is))
               ∙ Decoding.decode-found sheet accepted word out received (to-sheet (f .1))
               (subst (λ (i : ℕ). i ≤ radiusOf sheet) q (subst (λ (i : ℕ). m ≤ i) t-is (f .3)))

@@ -8,10 +8,10 @@ use decoding::room::correct_word;
 use decoding::types::Correction;
 use document::types::Refusal;
 use document::types::Reply;
+use repair::repair::repair;
 use sheet::sheet::byte;
 use word::layout::bytes_for;
 use word::layout::spare_word;
-use word::spread::pack_word;
 use word::spread::spread_word;
 
 // Refusals 11, 12 and 13, and the corrected word where none is drawn.
@@ -40,11 +40,12 @@ pub fn decode_accepted(
     let reps = byte(sheet, 3);
     let c = read(sheet, reps, working);
     let mut w = [0u8; 144];
+    let mut list = [0u8; 128];
     spread_word(word, 0, n, &mut w);
     let end = 10 + reps;
-    let Correction::Places(m) = correct_word(n, s, t, c, &sheet[10..end], &mut w) else {
+    let Correction::Places(m) = correct_word(n, s, t, c, &sheet[10..end], &mut list, &w) else {
         return Reply::Refused(Refusal::NoneNear);
     };
-    pack_word(&w, out);
+    repair(word, &list, m, out);
     Reply::Done(m)
 }

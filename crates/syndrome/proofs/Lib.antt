@@ -1,5 +1,7 @@
--- Values of words.
-pub mod Values
-pub mod Squares
+-- Laws, in reading order.
+pub mod Setting
 pub mod Computing
+pub mod Squares
+pub mod Extending
+pub mod Comparing
 pub mod Terms

@@ -19,12 +19,9 @@ use Rattle.cyclic.proofs.Coset as Coset
 use Rattle.document.specs.Generator.{valueAt}
 use Rattle.document.proofs.Cosets.{turn-back, walk-start, walk-more}
 use Rattle.document.proofs.Theory.{degree, root-mod}
-use Rattle.document.proofs.Demand2.{below-lt, value-is}
+use Rattle.document.proofs.Demand2.{value-is}
 use Rattle.syndrome.specs.Value.{valueOf, Spreadable, Spread}
-
-value-lt : {s : ℕ} (d : Degree s) (a c : ℕ) → valueAt s a c < 2 ^ s
-unfolding valueAt
-value-lt d a c = below-lt d a c _
+use Rattle.syndrome.proofs.Setting.{value-lt}
 
 pub value-square : {s : ℕ} (d : Degree s) (a c : ℕ)
     → fieldMultiply s (valueAt s a c) (valueAt s a c) ≡ valueAt s (fieldMultiply s a a) c

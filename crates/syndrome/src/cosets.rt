@@ -1,16 +1,16 @@
-// Values along cosets: the value at a square is the square of the value.
+// Values at the representatives, and along their cosets: the value at a square is the square of the value.
 ghost use mathlib.Core.Path.{_≡_};
 ghost use mathlib.Core.Bool.{_&&_};
 ghost use lib.Dec.{eqb};
-ghost use Rattle.syndrome.specs.Value.{Spreadable, Spread, Computable, Computed, Tested};
-use crate::ones::ones;
-use crate::value::value;
+ghost use Rattle.syndrome.specs.Value.{Spreadable, Spread, Computable, Computed, Tested, Extendable, Extended};
+use evaluation::columns::columns;
+use evaluation::strips::value_by_columns;
 use field::arithmetic::order;
 use field::degree::twice;
 use tables::product::multiply;
 
 // From the value v at α^r, the values at α^(2r), α^(4r), .. in s turns.
-pub fn spread(n: usize, s: usize, r: usize, v: u16, e: &[u16], g: &[u16], val: &mut [u16])
+fn spread(n: usize, s: usize, r: usize, v: u16, e: &[u16], g: &[u16], val: &mut [u16])
     requires { ⌜ Spreadable n s r v (now e) (now g) (now val) ⌝ }
     ensures { λ _. ⌜ Spread n s r v (now (val .entry)) (now (val .exit)) ⌝ }
 {
@@ -32,8 +32,7 @@ fn quiet(clean: bool, v: u16) -> bool
     if v == 0 { clean } else { false }
 }
 
-// The values of a word at α^i for every i of D: those at the representatives from its places, the others along the cosets.
-// The word is a codeword if those at the representatives are 0. `list` is room.
+// The values of a word at the representatives. It is a codeword if all are 0. `col` is room.
 pub fn values(
     w: &[u8],
     n: usize,
@@ -41,13 +40,14 @@ pub fn values(
     reps: &[u8],
     e: &[u16],
     g: &[u16],
-    list: &mut [u8],
+    col: &mut [u64],
     val: &mut [u16],
 ) -> bool
-    requires { ⌜ Computable n s (now w) (now reps) (now e) (now g) (now list) (now val) ⌝ }
+    requires { ⌜ Computable n s (now w) (now reps) (now e) (now g) (now col) (now val) ⌝ }
     ensures { λ r. ⌜ Computed n s (now (w .entry)) (now (reps .entry)) (now (val .exit)) × Tested n (now (w .entry)) (now (reps .entry)) r ⌝ }
 {
-    let c = ones(w, n, list);
+    let b = (n + 7) / 8 * 2;
+    columns(w, b, col);
     let q = order(s) / n;
     let count = reps.len();
     let mut clean = true;
@@ -55,9 +55,24 @@ pub fn values(
     while k < count {
         let r = reps[k] as usize;
         k = k + 1;
-        let v = value(list, c, s, (r * q) as u16, e);
+        let v = value_by_columns(col, b, s, (r * q) as u16, e, g);
         clean = quiet(clean, v);
-        spread(n, s, r, v, e, g, val);
+        val[r] = v;
     }
     clean
+}
+
+// The values at α^i for every i of D, from those at the representatives.
+pub fn extend(n: usize, s: usize, reps: &[u8], e: &[u16], g: &[u16], val: &mut [u16])
+    requires { ⌜ Extendable n s (now reps) (now e) (now g) (now val) ⌝ }
+    ensures { λ _. ⌜ Extended n s (now (reps .entry)) (now (val .entry)) (now (val .exit)) ⌝ }
+{
+    let count = reps.len();
+    let mut k: usize = 0;
+    while k < count {
+        let r = reps[k] as usize;
+        k = k + 1;
+        let v = val[r];
+        spread(n, s, r, v, e, g, val);
+    }
 }

@@ -58,7 +58,7 @@ logs-more {s} {n} {x} {g} {g′} d l h q v = record {
     go k m (no z) =
         getD-set-other g′ x (fieldPower s ω k) n 0 (λ e. z (power-inj d k n (omega arith) l (e ∙ q))) ∙ v .at k (omega arith)
 
-pub filled : {s n i : ℕ} {g e′ g′ : List ℕ} → Room s e′ g′ → n ≡ 2 ^ s - 1 → 4 * (2 ^ s - 1) ≤ i → Powers s i e′ → Logs s n g g′
+pub filled : {s n i : ℕ} {g e′ g′ : List ℕ} → Room s e′ g′ → n ≡ 2 ^ s - 1 → 5 * (2 ^ s - 1) ≤ i → Powers s i e′ → Logs s n g g′
     → Filled s g e′ (set g′ 0 n)
 filled {s} {n} {i} {g} {e′} {g′} r o l v w = record {
   tables = record {

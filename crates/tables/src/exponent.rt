@@ -13,13 +13,12 @@ pub fn fold(y: usize, s: usize) -> usize
     (y & order(s)) + (y >> s)
 }
 
-// Where ω^(l + i a) stands in the table, a sum of less than three rounds.
+// Where ω^(l + i a) stands in the table, in its first two rounds: so the places after i, a further each, are there too.
 pub fn index(l: u16, a: u16, i: usize, s: usize) -> usize
     requires { ⌜ Degree s × (l < 2 ^ s - 1) × (a < 2 ^ s - 1) × (i < 2 ^ s - 1) ⌝ }
-    ensures { λ r. ⌜ (r ≡ l + (i * a % 2 ^ s + i * a / 2 ^ s)) × (r < 3 * (2 ^ s - 1)) ⌝ }
+    ensures { λ r. ⌜ (r ≡ (l + i * a) % 2 ^ s + (l + i * a) / 2 ^ s) × (r < 2 * (2 ^ s - 1)) ⌝ }
 {
-    let y = fold(i * (a as usize), s);
-    (l as usize) + y
+    fold((l as usize) + i * (a as usize), s)
 }
 
 // ω^(l + i a)

@@ -1,4 +1,4 @@
-// Filling the tables: the powers of ω four times round, and the logarithms.
+// Filling the tables: the powers of ω five times round, and the logarithms.
 ghost use mathlib.Core.Path.{_≡_};
 ghost use Prim.Native.Nat.{_+_, _-_, _*_, _^_, _<_, _≤_};
 ghost use Rattle.tables.specs.Tables.{Room, Powers, Logs, Filled};
@@ -30,7 +30,7 @@ pub fn fill(s: usize, e: &mut [u16], g: &mut [u16])
     let n = order(s);
     once(s, n, e, g);
     g[0] = n as u16;
-    let end = 4 * n;
+    let end = 5 * n;
     let mut i = n;
     while i < end {
         let x = e[i - n];

@@ -1,7 +1,7 @@
+use borrow.Author.Needs.{needs}
 use native.Mathlib.Omega.{arith}
 -- `decoding::correct::verdict` meets its contract: one law for each exit.
 use Rattle.decoding.proofs.Correcting.{passed-many, passed-yes, passed-no}
-use borrow.Author.Needs.{needs}
 use Rattle.decoding.proofs.correct.verdict.Statement.{statement}
 use Rattle.decoding.proofs.correct.verdict.Tie as tie
 use Rattle.decoding.proofs.correct.verdict.Reads as reads
@@ -12,20 +12,13 @@ returns : tie.Need-returns
 returns c = passed-many (c .if1 .taken)
 
 agrees-requires : tie.Need-agrees-requires
-agrees-requires c κs = c .before .before .before .before .before .before .before .pre (c .before .if1 .left)
-
-same-length : tie.Need-same-length
-same-length c = search needs
+agrees-requires c κs = c .before .before .before .before .before .pre (c .if1 .left)
 
 returns-2 : tie.Need-returns-2
-returns-2 c = passed-yes (c .before .before .before .before .before .if1 .left) (c .before .before .before .agrees .ensures) (c .if2 .taken)
-
-same-length-2 : tie.Need-same-length-2
-same-length-2 c = search needs
+returns-2 c = passed-yes (c .before .before .if1 .left) (c .before .agrees .ensures) (c .if2 .taken)
 
 returns-3 : tie.Need-returns-3
-returns-3 c = passed-no (c .before .before .before .before .before .if1 .left) (c .before .before .before .agrees .ensures) (c .if2 .left)
+returns-3 c = passed-no (c .before .before .if1 .left) (c .before .agrees .ensures) (c .if2 .left)
 
 pub verdict-spec : {M : Type 1} → statement M
-verdict-spec =
-    tie.close (tie.spec returns agrees-requires same-length returns-2 same-length-2 returns-3)
+verdict-spec = tie.close (tie.spec returns agrees-requires returns-2 returns-3)

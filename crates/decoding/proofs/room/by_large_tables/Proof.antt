@@ -16,7 +16,7 @@ slice-aggregate-fill-2 : tie.Need-slice-aggregate-fill-2
 slice-aggregate-fill-2 c = search needs
 
 fill-requires : tie.Need-fill-requires
-fill-requires c κs = large-tables (degree-of (c .before .before .before .before .pre .0))
+fill-requires c κs = let p = c .before .before .before .before .before .pre in large-tables (degree-of (p .0))
 
 slice-aggregate-by-tables : tie.Need-slice-aggregate-by-tables
 slice-aggregate-by-tables c = search needs

@@ -38,11 +38,8 @@ slice-aggregate-correct-9 c = search needs
 slice-aggregate-correct-10 : tie.Need-slice-aggregate-correct-10
 slice-aggregate-correct-10 c = search needs
 
-slice-aggregate-correct-11 : tie.Need-slice-aggregate-correct-11
-slice-aggregate-correct-11 c = search needs
-
 correct-requires : tie.Need-correct-requires
-correct-requires c κs = let p = c .before .before .before .before .before .before .before .before .before .before .before .before .before .before .before .before .pre in record { given = p .0; tables = p .1; room = long-room (p .0 .most) (terms-few (p .0)); held = p .2 }
+correct-requires c κs = let p = c .before .before .before .before .before .before .before .before .before .before .before .before .before .before .before .before .pre in record { given = p .0; tables = p .1; room = long-room (p .0 .most) (p .3) (terms-few (p .0)); held = p .2 }
 
 same-length : tie.Need-same-length
 same-length c = search needs
@@ -64,7 +61,6 @@ in-long-room-spec =
     slice-aggregate-correct-8
     slice-aggregate-correct-9
     slice-aggregate-correct-10
-    slice-aggregate-correct-11
     correct-requires
     same-length
     returns)

@@ -1,6 +1,6 @@
 use native.Mathlib.Omega.{arith}
 -- `decoding::room::in_short_room` meets its contract: arrays of 64.
-use Rattle.decoding.proofs.Arrays.{short-room}
+use Rattle.decoding.proofs.Arrays.{short-room, terms-few}
 use borrow.Author.Needs.{needs}
 use Rattle.decoding.proofs.room.in_short_room.Statement.{statement}
 use Rattle.decoding.proofs.room.in_short_room.Tie as tie
@@ -38,11 +38,8 @@ slice-aggregate-correct-9 c = search needs
 slice-aggregate-correct-10 : tie.Need-slice-aggregate-correct-10
 slice-aggregate-correct-10 c = search needs
 
-slice-aggregate-correct-11 : tie.Need-slice-aggregate-correct-11
-slice-aggregate-correct-11 c = search needs
-
 correct-requires : tie.Need-correct-requires
-correct-requires c κs = let p = c .before .before .before .before .before .before .before .before .before .before .before .before .before .before .before .before .pre in record { given = p .0; tables = p .1; room = short-room (p .0 .most) (p .3); held = p .2 }
+correct-requires c κs = let p = c .before .before .before .before .before .before .before .before .before .before .before .before .before .before .before .before .pre in record { given = p .0; tables = p .1; room = short-room (p .0 .most) (p .3) (p .4); held = p .2 }
 
 same-length : tie.Need-same-length
 same-length c = search needs
@@ -64,7 +61,6 @@ in-short-room-spec =
     slice-aggregate-correct-8
     slice-aggregate-correct-9
     slice-aggregate-correct-10
-    slice-aggregate-correct-11
     correct-requires
     same-length
     returns)

@@ -62,16 +62,16 @@ loop-holds c =
       reduced-none p,
     )
 
-cancel-leading-requires : tie.Need-cancel-leading-requires Inv-loop μ-loop
-cancel-leading-requires c κs = let i = c .before .before .before .loop .inv in (reducible-on (i .0) (i .2) (i .3) (i .4) (i .5), omega (arith, c .before .before .loop-test .taken), i .1)
+cancel-terms-requires : tie.Need-cancel-terms-requires Inv-loop μ-loop
+cancel-terms-requires c κs = let i = c .before .before .before .loop .inv in (reducible-on (i .0) (i .2) (i .3) (i .4) (i .5), omega (arith, c .before .before .loop-test .taken), i .1)
 
 loop-less : tie.Need-loop-less Inv-loop μ-loop
-loop-less c = omega (arith, c .before .before .before .before .cancel-leading .ensures .0)
+loop-less c = omega (arith, c .before .before .before .before .cancel-terms .ensures .0)
 
 loop-again : tie.Need-loop-again Inv-loop μ-loop
 loop-again c =
     let i = c .before .before .before .before .before .before .before .before .loop .inv in
-    let t = c .before .before .before .before .cancel-leading in (
+    let t = c .before .before .before .before .cancel-terms in (
       i .0,
       i .1,
       omega (arith, t .ensures .0, i .2),
@@ -104,7 +104,7 @@ reduce-spec =
     returns
     log-requires
     loop-holds
-    cancel-leading-requires
+    cancel-terms-requires
     loop-less
     loop-again
     same-length

@@ -6,12 +6,12 @@ use mathlib.Core.Path.{_≡_, refl}
 use lib.ListN.{length}
 use Rattle.field.proofs.Numbers.{product-lt}
 use Rattle.poly.specs.Division.{Addable}
-use Rattle.poly.proofs.Adding.{Adding, adding-start, adding-more, adding-end}
+use Rattle.poly.proofs.Adding.{Adding, multiple, adding-start, adding-more, adding-end}
 use Rattle.poly.proofs.row.add_scaled.Statement.{statement}
 use Rattle.poly.proofs.row.add_scaled.Tie as tie
 
 abbrev Inv-loop : tie.InvT-loop
-Inv-loop s a₀ i k b n e g j₀ a j = Addable s i k n a₀ b e g × (j ≤ n) × (length a ≡ length a₀) × Adding s i k j a₀ b a
+Inv-loop s a₀ i k b n e g j₀ a j = Addable s i k n a₀ b e g × (j ≤ n) × (length a ≡ length a₀) × Adding s i (multiple s k b) j a₀ a
 
 abbrev μ-loop : tie.MeasureT-loop
 μ-loop s a₀ i k b n e g j₀ a j = n - j
@@ -61,7 +61,7 @@ same-length : tie.Need-same-length Inv-loop μ-loop
 same-length c = search needs
 
 returns : tie.Need-returns Inv-loop μ-loop
-returns c = let l = c .before .loop in adding-end (l .inv .0) (omega arith) (l .inv .3)
+returns c = let l = c .before .loop in adding-end (l .inv .0 .b-short) (omega arith) (l .inv .3)
 
 pub add-scaled-spec : {M : Type 1} → statement M
 add-scaled-spec =

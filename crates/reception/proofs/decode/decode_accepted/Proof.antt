@@ -2,10 +2,9 @@ use native.Mathlib.Omega.{arith}
 -- `reception::decode::decode_accepted` meets its contract: one law for each exit.
 use mathlib.Core.Path.{sym, ap, _∙_}
 use Rattle.word.proofs.Places.{for-le}
-use Rattle.word.proofs.Spreading.{held-binary}
-use Rattle.codeword.proofs.Words.{part-end, for-most}
+use Rattle.codeword.proofs.Words.{part-end}
 use Rattle.decoding.specs.Correct.{placesOf}
-use Rattle.reception.proofs.Exits.{readable, given, held, decode-word, decode-out, decode-spare, decode-far, decode-done, done-holds}
+use Rattle.reception.proofs.Exits.{readable, given, held, repairable, decode-word, decode-out, decode-spare, decode-far, decode-done}
 use borrow.Author.Needs.{needs}
 use Rattle.reception.proofs.decode.decode_accepted.Statement.{statement}
 use Rattle.reception.proofs.decode.decode_accepted.Tie as tie
@@ -13,10 +12,10 @@ use Rattle.reception.proofs.decode.decode_accepted.Reads as reads
 use Rattle.reception.proofs.decode.decode_accepted.Lts as lts
 use Rattle.certificate.proofs.check.read.Reads as read-reads
 use Rattle.decoding.proofs.room.correct_word.Reads as correct-word-reads
+use Rattle.repair.proofs.repair.repair.Reads as repair-reads
 use Rattle.sheet.proofs.sheet.byte.Reads as byte-reads
 use Rattle.word.proofs.layout.bytes_for.Reads as bytes-for-reads
 use Rattle.word.proofs.layout.spare_word.Reads as spare-word-reads
-use Rattle.word.proofs.spread.pack_word.Reads as pack-word-reads
 use Rattle.word.proofs.spread.spread_word.Reads as spread-word-reads
 
 bytes-for-requires : tie.Need-bytes-for-requires
@@ -66,9 +65,12 @@ part-correct-word-end c = part-end (c .before .before .before .before .before .b
 slice-aggregate-correct-word : tie.Need-slice-aggregate-correct-word
 slice-aggregate-correct-word c = search needs
 
+slice-aggregate-correct-word-2 : tie.Need-slice-aggregate-correct-word-2
+slice-aggregate-correct-word-2 c = search needs
+
 correct-word-requires : tie.Need-correct-word-requires
-correct-word-requires c κs = let p = c .before .before .before .before .before .before .before .before .before .before .before .before .before .before .before .before .pre in
-    (given (p .0) (p .1) (c .before .before .before .before .before .before .byte .ensures .0) (c .before .before .before .before .before .read .ensures .0), held (p .0) (p .1) (c .before .before .before .spread-word .ensures) (omega (arith, c .before .before .before .spread-word .kept .1 .1 .1 .0)))
+correct-word-requires c κs = let p = c .before .before .before .before .before .before .before .before .before .before .before .before .before .before .before .before .before .pre in
+    (given (p .0) (p .1) (c .before .before .before .before .before .before .before .byte .ensures .0) (c .before .before .before .before .before .before .read .ensures .0), held (p .0) (p .1) (c .before .before .before .before .spread-word .ensures) (omega (arith, c .before .before .before .before .spread-word .kept .1 .1 .1 .0)), omega (arith, p .0 .n-is, p .0 .head .most))
 
 enum-known-m : tie.Need-enum-known-m
 enum-known-m c = search needs
@@ -77,28 +79,26 @@ enum-told : tie.Need-enum-told
 enum-told c = search needs
 
 returns-4 : tie.Need-returns-4
-returns-4 c = let p = c .before .before .before .before .before .before .before .before .before .before .before .before .before .before .before .before .before .before .before .before .pre in
-    decode-far (p .0) (p .1) _ _ (c .before .before .before .before .before .before .before .before .before .before .before .before .before .before .before .if1 .left ∙ c .before .before .before .before .before .before .before .before .before .before .before .before .before .before .before .before .bytes-for .ensures) (c .before .before .before .before .before .before .before .before .before .before .before .before .before .if2 .left ∙ c .before .before .before .before .before .before .before .before .before .before .before .before .before .before .bytes-for2 .ensures) (sym (c .before .before .before .before .before .before .before .before .before .before .before .before .spare-word .ensures) ∙ c .before .before .before .before .before .before .before .before .before .before .before .if3 .left)
-    (c .before .before .before .before .before .before .before .before .before .before .byte .ensures .0) (c .before .before .before .before .before .before .before .spread-word .ensures) (c .before .before .before .correct-word .ensures) (ap placesOf (c .enum-told .given .1))
+returns-4 c = let p = c .before .before .before .before .before .before .before .before .before .before .before .before .before .before .before .before .before .before .before .before .before .pre in
+    decode-far (p .0) (p .1) _ _ (c .before .before .before .before .before .before .before .before .before .before .before .before .before .before .before .before .if1 .left ∙ c .before .before .before .before .before .before .before .before .before .before .before .before .before .before .before .before .before .bytes-for .ensures) (c .before .before .before .before .before .before .before .before .before .before .before .before .before .before .if2 .left ∙ c .before .before .before .before .before .before .before .before .before .before .before .before .before .before .before .bytes-for2 .ensures) (sym (c .before .before .before .before .before .before .before .before .before .before .before .before .before .spare-word .ensures) ∙ c .before .before .before .before .before .before .before .before .before .before .before .before .if3 .left)
+    (c .before .before .before .before .before .before .before .before .before .before .before .byte .ensures .0) (c .before .before .before .before .before .before .before .before .spread-word .ensures) (c .before .before .before .correct-word .ensures) (ap placesOf (c .enum-told .given .1))
 
-slice-aggregate-pack-word : tie.Need-slice-aggregate-pack-word
-slice-aggregate-pack-word c = search needs
+slice-aggregate-repair : tie.Need-slice-aggregate-repair
+slice-aggregate-repair c = search needs
 
-pack-word-requires : tie.Need-pack-word-requires
-pack-word-requires c κs = let p = c .before .before .before .before .before .before .before .before .before .before .before .before .before .before .before .before .before .before .before .before .before .before .before .pre in (
-  held-binary (done-holds (p .0) (p .1) (c .before .before .before .before .before .before .before .before .before .before .spread-word .ensures) (c .before .before .before .before .before .before .correct-word .ensures) (ap placesOf (c .before .before .before .m .given .1)) .1),
-  omega (arith, for-most (c .before .before .before .before .before .before .before .before .before .before .before .before .before .before .before .before .before .before .before .before .before .before .before .args .n), c .before .before .before .before .before .before .before .before .before .before .before .before .before .before .before .before .if2 .left, c .before .before .before .before .before .before .before .before .before .before .before .before .before .before .before .before .before .bytes-for2 .ensures, p .0 .n-is, p .0 .head .most, c .before .before .before .before .before .before .before .before .before .before .spread-word .kept .1 .1 .1 .0, c .before .before .before .before .before .before .correct-word .kept .1 .1 .1 .1 .1 .0),
-  omega (arith, for-most (c .before .before .before .before .before .before .before .before .before .before .before .before .before .before .before .before .before .before .before .before .before .before .before .args .n), c .before .before .before .before .before .before .before .before .before .before .before .before .before .before .before .before .if2 .left, c .before .before .before .before .before .before .before .before .before .before .before .before .before .before .before .before .before .bytes-for2 .ensures, p .0 .n-is, p .0 .head .most),
-)
+repair-requires : tie.Need-repair-requires
+repair-requires c κs = let p = c .before .before .before .before .before .before .before .before .before .before .before .before .before .before .before .before .before .before .before .before .before .before .before .before .pre in
+    repairable (p .0) (p .1) (c .before .before .before .before .before .before .before .before .before .before .before .spread-word .ensures) (c .before .before .before .before .before .before .correct-word .ensures) (ap placesOf (c .before .before .before .m .given .1)) (c .before .before .before .before .before .before .before .before .before .before .before .before .before .before .before .before .before .before .before .if1 .left ∙ c .before .before .before .before .before .before .before .before .before .before .before .before .before .before .before .before .before .before .before .before .bytes-for .ensures) (c .before .before .before .before .before .before .before .before .before .before .before .before .before .before .before .before .before .if2 .left ∙ c .before .before .before .before .before .before .before .before .before .before .before .before .before .before .before .before .before .before .bytes-for2 .ensures)
+    (omega (arith, c .before .before .before .before .before .before .correct-word .kept .1 .1 .1 .1 .1 .0))
 
 same-length : tie.Need-same-length
 same-length c = search needs
 
 returns-5 : tie.Need-returns-5
-returns-5 c = let p = c .before .before .before .before .before .before .before .before .before .before .before .before .before .before .before .before .before .before .before .before .before .before .before .before .before .before .pre in
-    decode-done (p .0) (p .1) _ _ (c .before .before .before .before .before .before .before .before .before .before .before .before .before .before .before .before .before .before .before .before .before .if1 .left ∙ c .before .before .before .before .before .before .before .before .before .before .before .before .before .before .before .before .before .before .before .before .before .before .bytes-for .ensures) (c .before .before .before .before .before .before .before .before .before .before .before .before .before .before .before .before .before .before .before .if2 .left ∙ c .before .before .before .before .before .before .before .before .before .before .before .before .before .before .before .before .before .before .before .before .bytes-for2 .ensures) (sym (c .before .before .before .before .before .before .before .before .before .before .before .before .before .before .before .before .before .before .spare-word .ensures) ∙ c .before .before .before .before .before .before .before .before .before .before .before .before .before .before .before .before .before .if3 .left)
-    (c .before .before .before .before .before .before .before .before .before .before .before .before .before .before .before .before .byte .ensures .0) (c .before .before .before .before .before .before .before .before .before .before .before .before .before .spread-word .ensures) (c .before .before .before .before .before .before .before .before .before .correct-word .ensures) (ap placesOf (c .before .before .before .before .before .before .m .given .1)) (c .before .before .pack-word .ensures)
-    (omega (arith, c .before .before .pack-word .kept .1 .0)) (λ i. omega (arith, c .slice-known2 .given i))
+returns-5 c = let p = c .before .before .before .before .before .before .before .before .before .before .before .before .before .before .before .before .before .before .before .before .before .before .before .before .before .before .before .pre in
+    decode-done (p .0) (p .1) _ _ (c .before .before .before .before .before .before .before .before .before .before .before .before .before .before .before .before .before .before .before .before .before .before .if1 .left ∙ c .before .before .before .before .before .before .before .before .before .before .before .before .before .before .before .before .before .before .before .before .before .before .before .bytes-for .ensures) (c .before .before .before .before .before .before .before .before .before .before .before .before .before .before .before .before .before .before .before .before .if2 .left ∙ c .before .before .before .before .before .before .before .before .before .before .before .before .before .before .before .before .before .before .before .before .before .bytes-for2 .ensures) (sym (c .before .before .before .before .before .before .before .before .before .before .before .before .before .before .before .before .before .before .before .spare-word .ensures) ∙ c .before .before .before .before .before .before .before .before .before .before .before .before .before .before .before .before .before .before .if3 .left)
+    (c .before .before .before .before .before .before .before .before .before .before .before .before .before .before .before .before .before .byte .ensures .0) (c .before .before .before .before .before .before .before .before .before .before .before .before .before .before .spread-word .ensures) (c .before .before .before .before .before .before .before .before .before .correct-word .ensures) (ap placesOf (c .before .before .before .before .before .before .m .given .1)) (c .before .before .repair .ensures)
+    (omega (arith, c .before .before .repair .kept .1 .1 .1 .0)) (λ i. omega (arith, c .slice-known2 .given i))
 
 pub decode-accepted-spec : {M : Type 1} → statement M
 decode-accepted-spec =
@@ -119,11 +119,12 @@ decode-accepted-spec =
     part-correct-word-start
     part-correct-word-end
     slice-aggregate-correct-word
+    slice-aggregate-correct-word-2
     correct-word-requires
     enum-known-m
     enum-told
     returns-4
-    slice-aggregate-pack-word
-    pack-word-requires
+    slice-aggregate-repair
+    repair-requires
     same-length
     returns-5)

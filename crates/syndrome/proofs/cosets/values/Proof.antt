@@ -1,89 +1,103 @@
 use borrow.Author.Needs.{needs}
 use native.Mathlib.Omega.{arith}
--- `syndrome::cosets::values` meets its contract: the cosets of the first k representatives hold their values.
+-- `syndrome::cosets::values` meets its contract: the first k representatives hold their values.
 use mathlib.Core.Path.{_≡_, refl, sym, ap, subst}
-use Prim.Native.Nat.{ℕ, _-_, _/_, _^_, _≤_}
-use lib.ListN.{length}
+use mathlib.Core.List.{List}
+use Prim.Native.Nat.{ℕ, _+_, _-_, _*_, _/_, _^_, _≤_}
+use lib.ListN.{length, length-set}
 use lib.Pow.{pow-mono}
-use Rattle.syndrome.specs.Value.{Listed, Computable}
-use Rattle.syndrome.proofs.Computing.{Computing, computing-start, computing-more, computing-end, computable-on, testable, by-lt, valuable, spreadable, value-here, Quiet, quiet-start, quiet-more, quiet-end}
+use Rattle.evaluation.specs.Columns.{Columned}
+use Rattle.syndrome.specs.Value.{Computable}
+use Rattle.syndrome.proofs.Setting.{by-lt}
+use Rattle.syndrome.proofs.Computing.{columnable, summable, value-here, Computing, computing-start, computing-more, computing-end, Quiet, quiet-start, quiet-more, quiet-end}
 use Rattle.syndrome.proofs.cosets.values.Statement.{statement}
 use Rattle.syndrome.proofs.cosets.values.Tie as tie
 use Rattle.syndrome.proofs.cosets.values.Reads as reads
 use Rattle.syndrome.proofs.cosets.values.Lts as lts
+use Rattle.evaluation.proofs.columns.columns.Reads as columns-reads
+use Rattle.evaluation.proofs.strips.value_by_columns.Reads as value-by-columns-reads
 use Rattle.field.proofs.arithmetic.order.Reads as order-reads
 use Rattle.syndrome.proofs.cosets.quiet.Reads as quiet-reads
-use Rattle.syndrome.proofs.cosets.spread.Reads as spread-reads
-use Rattle.syndrome.proofs.ones.ones.Reads as ones-reads
-use Rattle.syndrome.proofs.value.value.Reads as value-reads
 
 abbrev Inv-loop : tie.InvT-loop
-Inv-loop w n s reps e g list val₀ c q count clean₀ k₀ val clean k = Computable n s w reps e g list val₀ × Listed n w list c × (q ≡ (2 ^ s - 1) / n) × (count ≡ length reps) × (k ≤ count) × (length val ≡ length val₀) × Computing n s k w reps val × Quiet n s k w reps clean
+Inv-loop w n s reps e g col val₀ b q count clean₀ k₀ val clean k = (col₀ : List ℕ) × Computable n s w reps e g col₀ val₀ × (b ≡ (n + 7) / 8 * 2) × (b ≤ length col) × Columned b w col × (q ≡ (2 ^ s - 1) / n) × (count ≡ length reps) × (k ≤ count) × (length val ≡ length val₀) × Computing n s k w reps val × Quiet n s k w reps clean
 
 abbrev μ-loop : tie.MeasureT-loop
-μ-loop w n s reps e g list val₀ c q count clean₀ k₀ val clean k = count - k
+μ-loop w n s reps e g col val₀ b q count clean₀ k₀ val clean k = count - k
 
-ones-requires : tie.Need-ones-requires Inv-loop μ-loop
-ones-requires c κs = c .before .before .before .before .before .before .before .pre .listable
+add-b : tie.Need-add-b Inv-loop μ-loop
+add-b c = omega (arith, c .before .before .before .before .before .before .pre .setting .odd .most)
+
+mul-b : tie.Need-mul-b Inv-loop μ-loop
+mul-b c = omega (arith, c .before .before .before .before .before .before .pre .setting .odd .most)
+
+columns-requires : tie.Need-columns-requires Inv-loop μ-loop
+columns-requires c κs = (columnable (c .before .before .before .before .before .before .before .pre) refl, c .before .before .before .before .before .before .before .pre .col-long)
 
 order-requires : tie.Need-order-requires Inv-loop μ-loop
-order-requires c κs = c .before .before .before .before .before .before .before .before .before .before .pre .tables .degree
+order-requires c κs = c .before .before .before .before .before .before .before .before .before .before .pre .setting .powered .degree
 
 div-q : tie.Need-div-q Inv-loop μ-loop
-div-q c = omega (arith, c .before .before .before .before .before .before .before .before .before .before .before .pre .odd .least)
+div-q c = omega (arith, c .before .before .before .before .before .before .before .before .before .before .before .pre .setting .odd .least)
 
 loop-holds : tie.Need-loop-holds Inv-loop μ-loop
-loop-holds c = (computable-on (omega (arith, c .before .before .before .ones .kept .1 .1 .0)) (c .before .before .before .before .before .before .before .before .before .before .before .pre), c .before .before .before .ones .ensures, ap (λ (x : ℕ). x / c .before .before .before .before .before .before .before .before .before .before .before .args .n) (c .order .ensures), refl, omega arith, refl, computing-start, quiet-start)
+loop-holds c = (_, c .before .before .before .before .before .before .before .before .before .before .before .pre, refl, omega (arith, c .before .before .before .before .before .before .before .before .before .before .before .pre .col-long, c .before .before .before .columns .kept .1 .1 .0), c .before .before .before .columns .ensures, ap (λ (x : ℕ). x / c .before .before .before .before .before .before .before .before .before .before .before .args .n) (c .order .ensures), refl, omega arith, refl, computing-start, quiet-start)
 
 shared-slice-read-r : tie.Need-shared-slice-read-r Inv-loop μ-loop
-shared-slice-read-r c = let v = c .before .before .loop .inv in omega (arith, v .3)
+shared-slice-read-r c = let v = c .before .before .loop .inv in omega (arith, v .6)
 
 cast-r : tie.Need-cast-r Inv-loop μ-loop
 cast-r c = omega (arith, c .shared-slice-known5 .given (c .before .before .loop .k))
 
 add-k : tie.Need-add-k Inv-loop μ-loop
-add-k c = let v = c .before .before .loop .inv in omega (arith, v .3)
+add-k c = let v = c .before .before .loop .inv in omega (arith, v .6)
 
-mul-value : tie.Need-mul-value Inv-loop μ-loop
-mul-value c = let v = c .before .before .before .loop .inv in let b : 2 ^ c .before .before .before .before .before .before .before .before .before .before .before .before .before .before .before .args .s ≤ 2 ^ 12 = pow-mono (v .0 .tables .degree .hi) in
-    omega (arith, by-lt (testable (v .0)) (v .2) {k = c .before .before .before .loop .k} (omega (arith, v .3)) refl)
+mul-value-by-columns : tie.Need-mul-value-by-columns Inv-loop μ-loop
+mul-value-by-columns c = let v = c .before .before .before .loop .inv in let b : 2 ^ c .before .before .before .before .before .before .before .before .before .before .before .before .before .before .before .args .s ≤ 2 ^ 12 = pow-mono (v .1 .tables .degree .hi) in
+    omega (arith, by-lt (v .1 .setting) (v .5) {k = c .before .before .before .loop .k} (omega (arith, v .6)) refl)
 
-cast-value : tie.Need-cast-value Inv-loop μ-loop
-cast-value c = let v = c .before .before .before .loop .inv in let b : 2 ^ c .before .before .before .before .before .before .before .before .before .before .before .before .before .before .before .args .s ≤ 2 ^ 12 = pow-mono (v .0 .tables .degree .hi) in
-    omega (arith, by-lt (testable (v .0)) (v .2) {k = c .before .before .before .loop .k} (omega (arith, v .3)) refl)
+cast-value-by-columns : tie.Need-cast-value-by-columns Inv-loop μ-loop
+cast-value-by-columns c = let v = c .before .before .before .loop .inv in let b : 2 ^ c .before .before .before .before .before .before .before .before .before .before .before .before .before .before .before .args .s ≤ 2 ^ 12 = pow-mono (v .1 .tables .degree .hi) in
+    omega (arith, by-lt (v .1 .setting) (v .5) {k = c .before .before .before .loop .k} (omega (arith, v .6)) refl)
 
-value-requires : tie.Need-value-requires Inv-loop μ-loop
-value-requires c κs = let v = c .before .before .before .loop .inv in valuable (testable (v .0)) (v .2) {k = c .before .before .before .loop .k} (omega (arith, v .3)) refl (v .1)
+value-by-columns-requires : tie.Need-value-by-columns-requires Inv-loop μ-loop
+value-by-columns-requires c κs = let v = c .before .before .before .loop .inv in (summable (v .1) (v .2) (v .5) {k = c .before .before .before .loop .k} (omega (arith, v .6)) refl (v .3) (v .4), v .1 .tables)
 
 quiet-requires : tie.Need-quiet-requires Inv-loop μ-loop
 quiet-requires c κs = search needs
 
-spread-requires : tie.Need-spread-requires Inv-loop μ-loop
-spread-requires c κs = let v = c .before .before .before .before .before .before .loop .inv in spreadable (v .0) {k = c .before .before .before .before .before .before .loop .k} (omega (arith, v .3)) refl (c .before .before .value .ensures .1) (v .5)
+mul-val : tie.Need-mul-val Inv-loop μ-loop
+mul-val c = let v = c .before .before .before .before .before .loop .inv in omega (arith, v .1 .setting .below (c .before .before .before .before .before .loop .k) (omega (arith, v .6)), v .1 .setting .odd .most)
+
+slice-write-val : tie.Need-slice-write-val Inv-loop μ-loop
+slice-write-val c = let v = c .before .before .before .before .before .loop .inv in omega (arith, v .1 .setting .below (c .before .before .before .before .before .loop .k) (omega (arith, v .6)), v .1 .val-long, v .8)
 
 loop-less : tie.Need-loop-less Inv-loop μ-loop
 loop-less c = omega arith
 
 loop-again : tie.Need-loop-again Inv-loop μ-loop
-loop-again c = let v = c .before .before .before .before .before .before .before .before .before .loop .inv in let f = value-here (testable (v .0)) (v .2) _ (v .1) (c .before .before .before .before .before .value .ensures .0) in (
+loop-again c = let v = c .before .before .before .before .before .loop .inv in let f = value-here (v .1) (v .2) (v .5) _ (v .4) (c .before .value-by-columns .ensures) in (
   v .0,
   v .1,
   v .2,
   v .3,
+  v .4,
+  v .5,
+  v .6,
   omega arith,
-  omega (arith, v .5, c .before .before .spread .kept .1 .1 .1 .1 .1 .1 .0),
-  computing-more (v .6) refl f (c .before .before .spread .ensures),
-  subst (Quiet _ _ _ _ _) (sym (c .before .before .before .before .quiet .ensures)) (quiet-more (testable (v .0)) (omega (arith, v .3)) refl f (v .7)),
+  simp length-set (v .8),
+  computing-more (v .9) refl (omega (arith, v .1 .setting .below (c .before .before .before .before .before .loop .k) (omega (arith, v .6)), v .1 .val-long, v .8)) f,
+  subst (Quiet _ _ _ _ _) (sym (c .quiet .ensures)) (quiet-more (v .1 .setting) (omega (arith, v .6)) refl f (v .10)),
 )
 
 same-length : tie.Need-same-length Inv-loop μ-loop
-same-length c = omega (arith, c .before .before .before .before .before .ones .kept .1 .1 .0)
+same-length c = omega (arith, c .before .before .before .before .before .columns .kept .1 .1 .0)
 
 same-length-2 : tie.Need-same-length-2 Inv-loop μ-loop
-same-length-2 c = c .before .loop .inv .5
+same-length-2 c = c .before .loop .inv .8
 
 returns : tie.Need-returns Inv-loop μ-loop
-returns c = let v = c .before .loop .inv in (computing-end (v .0) (omega (arith, v .3)) (v .6), quiet-end (testable (v .0)) (omega (arith, v .3)) (v .7))
+returns c = let v = c .before .loop .inv in (computing-end (omega (arith, v .6)) (v .9), quiet-end (v .1 .setting) (omega (arith, v .6)) (v .10))
 
 pub values-spec : {M : Type 1} → statement M
 values-spec =
@@ -91,18 +105,21 @@ values-spec =
     (tie.spec
     Inv-loop
     μ-loop
-    ones-requires
+    add-b
+    mul-b
+    columns-requires
     order-requires
     div-q
     loop-holds
     shared-slice-read-r
     cast-r
     add-k
-    mul-value
-    cast-value
-    value-requires
+    mul-value-by-columns
+    cast-value-by-columns
+    value-by-columns-requires
     quiet-requires
-    spread-requires
+    mul-val
+    slice-write-val
     loop-less
     loop-again
     same-length

@@ -1,7 +1,5 @@
 use native.Mathlib.Omega.{arith}
 -- `tables::exponent::index` meets its contract.
-use mathlib.Core.Path.{ap}
-use Prim.Native.Nat.{ℕ, _+_}
 use Rattle.tables.proofs.Exponents.{exponent-lt, exponent-cap}
 use Rattle.field.proofs.Primitive.{Degree-bounds}
 use borrow.Author.Needs.{needs}
@@ -14,14 +12,14 @@ use Rattle.tables.proofs.exponent.fold.Reads as fold-reads
 mul-fold : tie.Need-mul-fold
 mul-fold c = let p = c .pre in omega (arith, exponent-cap (p .0) (p .3) (p .2))
 
-fold-requires : tie.Need-fold-requires
-fold-requires c κs = let p = c .pre in (p .0, exponent-lt _ _ _ (p .3) (p .2))
+add-fold : tie.Need-add-fold
+add-fold c = let p = c .pre in omega (arith, exponent-cap (p .0) (p .3) (p .2), p .1, Degree-bounds (p .0) .1)
 
-add-result : tie.Need-add-result
-add-result c = let a = c .before in omega (arith, c .fold .ensures .1, a .pre .1, Degree-bounds (a .pre .0) .1)
+fold-requires : tie.Need-fold-requires
+fold-requires c κs = let p = c .pre in (p .0, exponent-lt _ _ _ _ (p .1) (p .3) (p .2))
 
 returns : tie.Need-returns
 returns c = search needs
 
 pub index-spec : {M : Type 1} → statement M
-index-spec = tie.close (tie.spec mul-fold fold-requires add-result returns)
+index-spec = tie.close (tie.spec mul-fold add-fold fold-requires returns)

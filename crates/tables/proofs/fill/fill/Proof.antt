@@ -16,7 +16,7 @@ use Rattle.field.proofs.arithmetic.order.Reads as order-reads
 use Rattle.tables.proofs.fill.once.Reads as once-reads
 
 abbrev Inv-loop : tie.InvT-loop
-Inv-loop s e₀ g n end i₀ e i = Degree s × (n ≡ 2 ^ s - 1) × (end ≡ 4 * n) × (4 * (2 ^ s - 1) ≤ length e₀) × (length e ≡ length e₀) × (n ≤ i) × (i ≤ end) × Powers s i e × (4 ≤ 2 ^ s) × (2 ^ s ≤ 4096)
+Inv-loop s e₀ g n end i₀ e i = Degree s × (n ≡ 2 ^ s - 1) × (end ≡ 5 * n) × (5 * (2 ^ s - 1) ≤ length e₀) × (length e ≡ length e₀) × (n ≤ i) × (i ≤ end) × Powers s i e × (4 ≤ 2 ^ s) × (2 ^ s ≤ 4096)
 
 abbrev μ-loop : tie.MeasureT-loop
 μ-loop s e₀ g n end i₀ e i = end - i

@@ -1,0 +1,2 @@
+-- Bytes copied, and places changed one by one.
+pub mod Repairing

@@ -1,0 +1,2 @@
+// A received word's bytes with listed places changed.
+pub mod repair;

@@ -48,22 +48,22 @@ cast-fourth : tie.Need-cast-fourth
 cast-fourth c = omega (arith, c .before .before .before .before .pre .0 .bits (3 * c .before .before .before .before .args .b + c .before .before .before .before .args .i))
 
 mul-result : tie.Need-mul-result
-mul-result c = omega (arith, c .before .before .before .before .pre .0 .bits (3 * c .before .before .before .before .args .b + c .before .before .before .before .args .i))
+mul-result c = let p = c .before .before .before .before in let b = p .pre .0 .bits in omega (arith, b (p .args .i), b (p .args .b + p .args .i), b (2 * p .args .b + p .args .i), b (3 * p .args .b + p .args .i))
 
 add-result : tie.Need-add-result
-add-result c = omega (arith, c .before .before .before .before .pre .0 .bits (3 * c .before .before .before .before .args .b + c .before .before .before .before .args .i), c .before .before .before .before .pre .0 .bits (2 * c .before .before .before .before .args .b + c .before .before .before .before .args .i))
+add-result c = let p = c .before .before .before .before in let b = p .pre .0 .bits in omega (arith, b (p .args .i), b (p .args .b + p .args .i), b (2 * p .args .b + p .args .i), b (3 * p .args .b + p .args .i))
 
 mul-result-2 : tie.Need-mul-result-2
-mul-result-2 c = omega (arith, c .before .before .before .before .pre .0 .bits (3 * c .before .before .before .before .args .b + c .before .before .before .before .args .i), c .before .before .before .before .pre .0 .bits (2 * c .before .before .before .before .args .b + c .before .before .before .before .args .i))
+mul-result-2 c = let p = c .before .before .before .before in let b = p .pre .0 .bits in omega (arith, b (p .args .i), b (p .args .b + p .args .i), b (2 * p .args .b + p .args .i), b (3 * p .args .b + p .args .i))
 
 add-result-2 : tie.Need-add-result-2
-add-result-2 c = omega (arith, c .before .before .before .before .pre .0 .bits (3 * c .before .before .before .before .args .b + c .before .before .before .before .args .i), c .before .before .before .before .pre .0 .bits (2 * c .before .before .before .before .args .b + c .before .before .before .before .args .i), c .before .before .before .before .pre .0 .bits (c .before .before .before .before .args .b + c .before .before .before .before .args .i))
+add-result-2 c = let p = c .before .before .before .before in let b = p .pre .0 .bits in omega (arith, b (p .args .i), b (p .args .b + p .args .i), b (2 * p .args .b + p .args .i), b (3 * p .args .b + p .args .i))
 
 mul-result-3 : tie.Need-mul-result-3
-mul-result-3 c = omega (arith, c .before .before .before .before .pre .0 .bits (3 * c .before .before .before .before .args .b + c .before .before .before .before .args .i), c .before .before .before .before .pre .0 .bits (2 * c .before .before .before .before .args .b + c .before .before .before .before .args .i), c .before .before .before .before .pre .0 .bits (c .before .before .before .before .args .b + c .before .before .before .before .args .i))
+mul-result-3 c = let p = c .before .before .before .before in let b = p .pre .0 .bits in omega (arith, b (p .args .i), b (p .args .b + p .args .i), b (2 * p .args .b + p .args .i), b (3 * p .args .b + p .args .i))
 
 add-result-3 : tie.Need-add-result-3
-add-result-3 c = omega (arith, c .before .before .before .before .pre .0 .bits (3 * c .before .before .before .before .args .b + c .before .before .before .before .args .i), c .before .before .before .before .pre .0 .bits (2 * c .before .before .before .before .args .b + c .before .before .before .before .args .i), c .before .before .before .before .pre .0 .bits (c .before .before .before .before .args .b + c .before .before .before .before .args .i), c .before .before .before .before .pre .0 .bits (c .before .before .before .before .args .i))
+add-result-3 c = let p = c .before .before .before .before in let b = p .pre .0 .bits in omega (arith, b (p .args .i), b (p .args .b + p .args .i), b (2 * p .args .b + p .args .i), b (3 * p .args .b + p .args .i))
 
 returns : tie.Need-returns
 returns c = column-is (c .before .before .before .before .args .b) (c .before .before .before .before .args .i) _

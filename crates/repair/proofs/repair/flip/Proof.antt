@@ -31,7 +31,7 @@ sub-set-word-place : tie.Need-sub-set-word-place Inv-loop μ-loop
 sub-set-word-place c = omega (arith, bit-le _ _ (c .before .word-place .ensures))
 
 set-word-place-requires : tie.Need-set-word-place-requires Inv-loop μ-loop
-set-word-place-requires c κs = let v = c .before .before .before .before .before .loop .inv in (omega (arith, v .1, v .0 .below (c .before .before .before .before .before .loop .k) (omega arith)), omega arith)
+set-word-place-requires c κs = let v = c .before .before .before .before .before .loop .inv in (omega (arith, v .1, v .0 .below (c .before .before .before .before .before .loop .k) (omega arith)), omega (arith, bit-le _ _ (c .before .word-place .ensures)))
 
 add-k : tie.Need-add-k Inv-loop μ-loop
 add-k c = search needs

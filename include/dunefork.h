@@ -28,7 +28,7 @@
  *
  * Words and messages. A word of n places takes DUNEFORK_BYTES(n) bytes and a message of k places DUNEFORK_BYTES(k). Place i
  * has weight 2^(i mod 8) in byte i div 8. Places from n (or k) on, the spare bits of the last byte, must be 0 in what you
- * hand over, and are 0 in what you get. n is the sheet's byte 2; k is told by the program linkcard.
+ * hand over, and are 0 in what you get. n is the sheet's byte 2; dunefork_card tells n, k and t.
  *
  * The sheet. 16-bit numbers have their low byte first. The folder sheets/ has some; docs/SHEETS.md says how to write one.
  *     bytes 0-1  length of the whole sheet, 10 + R + 8 C
@@ -57,16 +57,18 @@
 extern "C" {
 #endif
 
-/* Bytes that n places take; the longest sheet, and the longest word or message, in bytes. */
+/* Bytes that n places take; the longest sheet, and the longest word or message, in bytes; the buffer for a listing. */
 #define DUNEFORK_BYTES(n) (((size_t)(n) + 7) / 8)
 #define DUNEFORK_SHEET_MAX 74
 #define DUNEFORK_WORD_MAX 16
+#define DUNEFORK_CARD_BYTES 1024
 
 /* Bytes of stack that a call takes, at most and for any input, its return address included; what memset and memmove of your C
  * library take for themselves is not counted. tools/stack measures the archive and writes these lines: docs/STACK.md. */
 #define DUNEFORK_ENCODE_STACK 836
 #define DUNEFORK_READ_STACK 852
 #define DUNEFORK_DECODE_STACK 71376
+#define DUNEFORK_CARD_STACK 0
 
 /* What a call returns where it refuses. The conditions are tried in this order; those of certificates (RANGE to TERM) for one
  * certificate after the other. examples/c/refusals.c draws each of them once, docs/SHEETS.md says what to do about it. */
@@ -99,13 +101,19 @@ int32_t dunefork_read(const uint8_t *sheet, size_t sheet_len, const uint8_t *wor
 
 /* Corrects a received word of exactly DUNEFORK_BYTES(n) bytes: the codeword that differs from it in at most t places goes into
  * out, exactly DUNEFORK_BYTES(n) bytes, and the number of places in which the two differ is returned, 0 to t. t is the sheet's
- * radius, told by the program linkcard: the largest (d - 1)/2, rounded down, of the sheet's certificates. There is never more
+ * radius, told by dunefork_card: the largest (d - 1)/2, rounded down, of the sheet's certificates. There is never more
  * than one such codeword. On an accepted sheet a word of the right length without spare bits is refused, with
  * DUNEFORK_NONE_NEAR, exactly where there is none. Returns 0 to t, or a refusal: -1 to -13.
  *
  * So up to t wrong places are always corrected. If there are more, the answer is DUNEFORK_NONE_NEAR, or another codeword that is
  * within t places: the received word does not tell them apart. Where that matters, let the message carry a check of its own. */
 int32_t dunefork_decode(const uint8_t *sheet, size_t sheet_len, const uint8_t *word, size_t word_len, uint8_t *out, size_t out_len);
+
+/* Tells what a sheet amounts to: its listing, the program linkcard's text, into out, exactly DUNEFORK_CARD_BYTES bytes. The lines
+ * are "code N K S", S being the field's degree, "zeros ..", "generator ..", for each certificate C "cert C terms L distance D", and
+ * "radius T from cert C"; or "refused R" alone, for a sheet that the other calls refuse with -R. Returns the text's length in bytes; there is no 0 at its end, and what
+ * stood after it in out is as it was. Refused is only an out of another length, with DUNEFORK_BUFFER_LENGTH. */
+int32_t dunefork_card(const uint8_t *sheet, size_t sheet_len, uint8_t *out, size_t out_len);
 
 #ifdef __cplusplus
 }

@@ -2,7 +2,7 @@
  *
  *     stack ENTRY SHEET INPUT OUT_LEN
  *
- * ENTRY is encode, read or decode, SHEET and INPUT are hexadecimal digits. It writes what the entry returned and the number of
+ * ENTRY is encode, read, decode or card, SHEET and INPUT are hexadecimal digits. It writes what the entry returned and the number of
  * bytes from the stack pointer at the call, the return address included, to the deepest byte that was written. */
 #include "dunefork.h"
 #include <stdio.h>
@@ -11,10 +11,8 @@
 
 #define ROOM ((size_t)1 << 20)
 
-typedef int32_t entry(const uint8_t *, size_t, const uint8_t *, size_t, uint8_t *, size_t);
-
-/* The entry called with the stack pointer at `top`. Its six arguments are all in registers. */
-static int32_t call_at(uint8_t *top, entry *f, const uint8_t *sheet, size_t sheet_len, const uint8_t *in, size_t in_len,
+/* The entry called with the stack pointer at `top`. Its six arguments are all in registers; card takes the first four. */
+static int32_t call_at(uint8_t *top, void *f, const uint8_t *sheet, size_t sheet_len, const uint8_t *in, size_t in_len,
                        uint8_t *out, size_t out_len) {
     register size_t a4 __asm__("r8") = (size_t)out;
     register size_t a5 __asm__("r9") = out_len;
@@ -43,14 +41,18 @@ static size_t from_hex(const char *text, uint8_t *bytes, size_t most) {
 int main(int argc, char **argv) {
     uint8_t sheet[DUNEFORK_SHEET_MAX + 1], in[DUNEFORK_WORD_MAX + 1], out[DUNEFORK_WORD_MAX + 1];
     if (argc != 5 || (size_t)atoi(argv[4]) > sizeof out) return 2;
-    entry *f = strcmp(argv[1], "encode") == 0 ? dunefork_encode : strcmp(argv[1], "read") == 0 ? dunefork_read : dunefork_decode;
+    void *const entries[] = {(void *)dunefork_encode, (void *)dunefork_read, (void *)dunefork_decode, (void *)dunefork_card};
+    int which = strcmp(argv[1], "encode") == 0 ? 0 : strcmp(argv[1], "read") == 0 ? 1 : strcmp(argv[1], "decode") == 0 ? 2 : 3;
     size_t sheet_len = from_hex(argv[2], sheet, sizeof sheet), in_len = from_hex(argv[3], in, sizeof in), deepest = 0;
+    static uint8_t text[DUNEFORK_CARD_BYTES];
+    const uint8_t *second = which == 3 ? text : in;
+    if (which == 3) in_len = sizeof text;
     uint8_t *room = aligned_alloc(4096, ROOM);
     int32_t answer = 0;
     /* twice, since a byte that was written may have the paint's own value */
     for (int paint = 0x55; paint <= 0xaa; paint += 0x55) {
         memset(room, paint, ROOM);
-        answer = call_at(room + ROOM, f, sheet, sheet_len, in, in_len, out, (size_t)atoi(argv[4]));
+        answer = call_at(room + ROOM, entries[which], sheet, sheet_len, second, in_len, out, (size_t)atoi(argv[4]));
         size_t low = 0;
         while (low < ROOM && room[low] == paint) low++;
         if (ROOM - low > deepest) deepest = ROOM - low;

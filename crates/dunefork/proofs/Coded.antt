@@ -3,13 +3,15 @@
 --   replied            a reply that is one of its cases
 --   coded-refused      a refusal's code is minus its number
 --   encode-done, read-done      what encoding and reading out return is 0
---   decode-fits, decode-done    what decoding returns is at most n, and so a number of 32 bits
+--   decode-fits, card-fits      what decoding returns is at most n, and a listing has at most 1,024 bytes: numbers of 32 bits
+--   counted-done       such a number is its own code
 use mathlib.Core.Path.{_≡_, refl, sym, ap, _∙_}
-use mathlib.Core.List.{List, [], _∷_}
+use mathlib.Core.List.{List, [], _∷_, _++_}
 use Prim.Native.Nat.{ℕ, zero, suc, _+_, _/_, _^_, _≤_, _<_}
+use native.Mathlib.Decide.{ℕ-discrete}
 use native.Mathlib.Omega.{arith}
 use lib.IntN.{ℤ, pos, negℤ}
-use lib.ListN.{getD}
+use lib.ListN.{length, getD, drop, length-append}
 use mir.Syntax.{w32}
 use mir.Val.{SFits, toZ, ofZ}
 use mir.ValLaws.{toZ-pos}
@@ -20,12 +22,14 @@ use Rattle.document.specs.declared.types.Reply.{Reply}
 use Rattle.document.specs.Answer.{Answer, returned, refused, numberOf, repliedAs, settle}
 use Rattle.document.specs.Sheet.{codeLength}
 use Rattle.document.specs.Generator.{differences}
+use Rattle.document.specs.Card.{listing, cardOf}
 use Rattle.document.specs.Entry.{encodeOf, readOf, wordOf, decodedWord, decodeOf}
 use Rattle.field.specs.Mask.{_⊕_}
 use Rattle.field.proofs.Xor.{digit-lt}
 use Rattle.cyclic.proofs.Places.{count, count-z, count-s}
 use Rattle.distance.proofs.Distance.{differences-are}
 use Rattle.judging.proofs.Weighing.{number-pos}
+use Rattle.listing.proofs.Cards.{card-size}
 use Rattle.dunefork.specs.Codes.{codeFor, codedAs}
 
 minus : (r : ℕ) → 0 < r → codeFor r [] ≡ negℤ (pos r)
@@ -99,5 +103,22 @@ pub decode-fits : (sheet word out : List ℕ) {m : ℕ} {o : List ℕ} → getD 
 unfolding codeLength
 decode-fits sheet word out h e = record { sfits = omega (arith, changed-le sheet word out e) }
 
-pub decode-done : {m : ℕ} {o : List ℕ} {a : Answer × List ℕ} → SFits w32 (pos m) → (returned (m ∷ []), o) ≡ a → (toZ w32 m, o) ≡ codedAs a
-decode-done {m} {o} h e = ap (λ (x : ℤ). (x, o)) (toZ-pos w32 m (h .sfits) ∙ sym (code-of m)) ∙ ap codedAs e
+-- ---- listing
+listed-le : (x : ℕ) {m : ℕ} (text old rest o : List ℕ) → (returned (m ∷ []), o) ≡ settle x (length text ∷ []) (text ++ rest) old → m ≤ length o
+unfolding settle
+listed-le zero {m} text old rest o e =
+    let v : m ≡ length text = ap (λ (a : Answer × List ℕ). getD (a .0 .values) 0 0) e in
+    let w : length o ≡ length (text ++ rest) = ap (λ (a : Answer × List ℕ). length (a .1)) e in
+    omega (arith, length-append text rest)
+listed-le (suc x) text old rest o e = let z : 0 ≡ suc x = ap (λ (a : Answer × List ℕ). a .0 .number) e in absurd (omega arith)
+
+pub card-fits : (sheet out : List ℕ) {m : ℕ} {o : List ℕ} → length o ≡ length out → (returned (m ∷ []), o) ≡ cardOf sheet out → SFits w32 (pos m)
+unfolding cardOf
+card-fits sheet out {m} {o} l e =
+    elim (ℕ-discrete (length out) 1024) [
+      | yes q ↦ record { sfits = omega (arith, listed-le _ (listing sheet) out (drop (length (listing sheet)) out) o e) }
+      | no q ↦ (let z : _≡_ {A = ℕ} 0 11 = ap (λ (a : Answer × List ℕ). a .0 .number) (e ∙ sym (card-size sheet out q)) in absurd (omega arith))
+    ]
+
+pub counted-done : {m : ℕ} {o : List ℕ} {a : Answer × List ℕ} → SFits w32 (pos m) → (returned (m ∷ []), o) ≡ a → (toZ w32 m, o) ≡ codedAs a
+counted-done {m} {o} h e = ap (λ (x : ℤ). (x, o)) (toZ-pos w32 m (h .sfits) ∙ sym (code-of m)) ∙ ap codedAs e

@@ -3,6 +3,7 @@ ghost use mathlib.Core.Path.{_≡_};
 ghost use lib.IntN.{pos, negℤ};
 ghost use Rattle.document.specs.Answer.{numberOf};
 ghost use Rattle.document.specs.Entry.{encodeOf, readOf, decodeOf};
+ghost use Rattle.document.specs.Card.{cardOf};
 ghost use Rattle.dunefork.specs.Codes.{codedAs};
 use document::types::Refusal;
 use document::types::Reply;
@@ -61,6 +62,18 @@ pub extern "C" fn dunefork_decode(sheet: &[u8], word: &[u8], out: &mut [u8]) -> 
     let reply = code::decode::decode(sheet, word, out);
     match reply {
         Reply::Done(m) => m as i32,
+        Reply::Refused(r) => refusal_code(r),
+    }
+}
+
+// The listing of a sheet, refused ones too, into out; its length.
+#[no_mangle]
+pub extern "C" fn dunefork_card(sheet: &[u8], out: &mut [u8]) -> i32
+    ensures { λ r. ⌜ (r, now (out .exit)) ≡ codedAs (cardOf (now (sheet .entry)) (now (out .entry))) ⌝ }
+{
+    let reply = code::card::card(sheet, out);
+    match reply {
+        Reply::Done(size) => size as i32,
         Reply::Refused(r) => refusal_code(r),
     }
 }

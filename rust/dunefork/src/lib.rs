@@ -23,8 +23,8 @@
 //! ```
 //!
 //! Place i of a word or message has weight 2^(i mod 8) in byte i div 8. The spare bits of the last byte must be 0 in what is
-//! handed over, and are 0 in what comes back. n is byte 2 of the sheet; the program `linkcard` tells n, k and t of a sheet, and
-//! docs/SHEETS.md how to write one.
+//! handed over, and are 0 in what comes back. n is byte 2 of the sheet; [`card`] tells n, k and t of a sheet, and docs/SHEETS.md how to
+//! write one.
 //!
 //! Every call judges the sheet anew. Nothing is kept between calls: no heap, no global state, no lock. A call that fails leaves
 //! the output buffer as it was, every byte of it. docs/STACK.md tells how much stack a call takes.
@@ -44,6 +44,9 @@ pub const SHEET_MAX: usize = 74;
 
 /// The longest word, and the longest message, in bytes: those of 127 places.
 pub const WORD_MAX: usize = bytes(127);
+
+/// The bytes of a buffer for [`card`].
+pub const CARD_BYTES: usize = 1024;
 
 /// The bytes that a word or message of so many places takes.
 ///
@@ -159,6 +162,7 @@ mod c {
         fn dunefork_encode(s: *const u8, s_len: usize, i: *const u8, i_len: usize, o: *mut u8, o_len: usize) -> i32;
         fn dunefork_read(s: *const u8, s_len: usize, i: *const u8, i_len: usize, o: *mut u8, o_len: usize) -> i32;
         fn dunefork_decode(s: *const u8, s_len: usize, i: *const u8, i_len: usize, o: *mut u8, o_len: usize) -> i32;
+        fn dunefork_card(s: *const u8, s_len: usize, o: *mut u8, o_len: usize) -> i32;
     }
 
     pub const ENCODE: Entry = dunefork_encode;
@@ -169,7 +173,16 @@ mod c {
     pub fn call(entry: Entry, sheet: &[u8], input: &[u8], out: &mut [u8]) -> Result<usize, super::Error> {
         // SAFETY: the entries read the two inputs and write `out` within the lengths that go with them, and keep no pointer.
         // `out` is borrowed exclusively, so that it overlaps neither input.
-        let code = unsafe { entry(sheet.as_ptr(), sheet.len(), input.as_ptr(), input.len(), out.as_mut_ptr(), out.len()) };
+        answer(unsafe { entry(sheet.as_ptr(), sheet.len(), input.as_ptr(), input.len(), out.as_mut_ptr(), out.len()) })
+    }
+
+    /// The listing of a sheet into `out`: its length.
+    pub fn card(sheet: &[u8], out: &mut [u8]) -> Result<usize, super::Error> {
+        // SAFETY: as above.
+        answer(unsafe { dunefork_card(sheet.as_ptr(), sheet.len(), out.as_mut_ptr(), out.len()) })
+    }
+
+    fn answer(code: i32) -> Result<usize, super::Error> {
         match usize::try_from(code) {
             Ok(answer) => Ok(answer),
             Err(_) => match u8::try_from(code.unsigned_abs()).ok().and_then(super::Error::from_number) {
@@ -245,4 +258,20 @@ pub fn read(sheet: &[u8], word: &[u8], out: &mut [u8]) -> Result<(), Error> {
 /// Refusals 1 to 12, and [`Error::NoneNear`] exactly where no codeword is within t places; `out` is then as it was.
 pub fn decode(sheet: &[u8], word: &[u8], out: &mut [u8]) -> Result<usize, Error> {
     c::call(c::DECODE, sheet, word, out)
+}
+
+/// Tells what a sheet amounts to: its listing, the text of the program `linkcard`, written into `out`. The lines are `code N K S`, S
+/// being the field's degree, `zeros ..`, `generator ..`, `cert C terms L distance D` for each certificate C, and `radius T from cert C`;
+/// or `refused R` alone.
+///
+/// ```
+/// const SHEET: [u8; 19] = [19, 0, 7, 1, 10, 0, 1, 0, 11, 0, 1, 1, 1, 3, 0, 1, 0, 2, 0];
+///
+/// let mut text = [0; dunefork::CARD_BYTES];
+/// assert!(dunefork::card(&SHEET, &mut text).starts_with("code 7 4 3\n"));
+/// assert_eq!(dunefork::card(&[], &mut text), "refused 1\n");
+/// ```
+pub fn card<'a>(sheet: &[u8], out: &'a mut [u8; CARD_BYTES]) -> &'a str {
+    let size = c::card(sheet, out).expect("a buffer of this length is not refused");
+    core::str::from_utf8(&out[..size]).expect("a listing is ASCII text")
 }

@@ -1,23 +1,16 @@
-#!/usr/bin/env python3
-# The calls of decode that the program crates/decode_answers makes, and the answers that it must write, made without any of its
-# code:
+# Calls of decode, and what it is to answer, made without any of the product's code. tools/answers.py puts them together with those
+# of the other entries.
 #
-#     tools/decode_answers.py calls   > crates/decode_answers/stdin
-#     tools/decode_answers.py answers > crates/decode_answers/stdout
-#
-# A call hands over one word, and its answer is 'changed count buffer' or 'refused number buffer'; or it asks for all words of a
-# sheet's length, and the answer counts the replies and sums them up with the buffers. What is right is found with no equation:
-# every error pattern of at most t places is tried, or every codeword; where both are too many a word is made from a codeword, so
-# that the answer is known. Sheets are judged as in entry_answers.py. vectors.py adds words that other programs decoded.
-import sys
+# A call hands over one word, and its answer is 'decode changed count buffer' or 'decode refused number buffer'; or it asks for all
+# words of a sheet's length, and the answer counts the replies and sums them up with the buffers. What is right is found with no
+# equation: every error pattern of at most t places is tried, or every codeword; where both are too many a word is made from a
+# codeword, so that the answer is known. Sheets are judged as in entry_answers.py.
 from functools import lru_cache
 from itertools import combinations
 from math import comb, gcd
 
-sys.dont_write_bytecode = True
 from entry_answers import (SHEETS, answer, bits, certificate, common_factor, coset, encoded, generator, in_bytes, known, parts,
                            period, remainder, series, sheet)
-from vectors import decode_calls
 
 LENGTHS = [n for n in range(3, 128, 2) if len(coset(1, n)) <= 12]
 MOST_PATTERNS, MOST_MESSAGE_BITS = 50000, 12
@@ -268,11 +261,11 @@ def whole_sheets(draw):
     yield sheet(15, [0, 1, 3], certificate(4, 8, 3, 1, 2), certificate(0, 1, 3, 1, 5))
 
 
-# ---- calls: the kind, 0 for a word and 1 for all, what is handed over, how long the buffer is or the words are, and the answer
+# ---- calls: the kind, 3 for a word and 4 for all, what is handed over, how long the buffer is or the words are, and the answer
 def in_answer(codeword, word, n):
     if codeword is None:
-        return 'refused 13 ' + 'aa' * ((n + 7) // 8)
-    return 'changed %d %s' % ((codeword ^ word).bit_count(), in_bytes(codeword, n).hex())
+        return 'decode refused 13 ' + 'aa' * ((n + 7) // 8)
+    return 'decode changed %d %s' % ((codeword ^ word).bit_count(), in_bytes(codeword, n).hex())
 
 
 def weights(code):
@@ -288,7 +281,7 @@ def word_calls(draw, of_sheet):
         codeword, pattern = encoded(draw.bits(code.k), code.g), draw.pattern(n, weight)
         found = code.decoded(codeword, pattern)
         if found != 'open':
-            yield 0, in_bytes(codeword ^ pattern, n), b, in_answer(found, codeword ^ pattern, n)
+            yield 3, in_bytes(codeword ^ pattern, n), b, in_answer(found, codeword ^ pattern, n)
 
 
 def length_calls(of_sheet):
@@ -296,19 +289,19 @@ def length_calls(of_sheet):
     n, b = of_sheet[2], (of_sheet[2] + 7) // 8
     for given in sorted({0, b - 1, b + 1, 20} - {b}):
         for room in (0, b):
-            yield 0, bytes(given), room, 'refused 11 ' + 'aa' * room
+            yield 3, bytes(given), room, 'decode refused 11 ' + 'aa' * room
     for room in sorted({0, b - 1, b + 1, 20} - {b}):
-        yield 0, bytes(b), room, 'refused 11 ' + 'aa' * room
-        yield 0, bytes(b - 1) + b'\xff', room, 'refused 11 ' + 'aa' * room
+        yield 3, bytes(b), room, 'decode refused 11 ' + 'aa' * room
+        yield 3, bytes(b - 1) + b'\xff', room, 'decode refused 11 ' + 'aa' * room
     for place in range(n, 8 * b):
         for rest in (0, 1, 2 ** n - 1, 3 << n // 2):
-            yield 0, in_bytes(rest | 1 << place, n), b, 'refused 12 ' + 'aa' * b
+            yield 3, in_bytes(rest | 1 << place, n), b, 'decode refused 12 ' + 'aa' * b
 
 
 def refused_calls(number):
     # a refused sheet, with words and buffers that have the right length, and others
     for given, room in ((b'\x01', 1), (bytes(16), 16), (b'\xff\xff', 2), (b'', 0)):
-        yield 0, given, room, 'refused %s ' % number + 'aa' * room
+        yield 3, given, room, 'decode refused %s ' % number + 'aa' * room
 
 
 def whole_call(of_sheet):
@@ -324,17 +317,17 @@ def whole_call(of_sheet):
             reply, buffer = 128 + 13, b''
             refused += 1
         checksum = (checksum * 1000003 + (reply << 24) + int.from_bytes(buffer.ljust(3, b'\xaa'), 'little')) % 4294967291
-    yield 1, b'', code.n, 'all changed %s refused %d checksum %d' % (' '.join(map(str, counts)), refused, checksum)
+    yield 4, b'', code.n, 'all changed %s refused %d checksum %d' % (' '.join(map(str, counts)), refused, checksum)
 
 
 def cases(of_sheet, *pairs):
     # document 01's own: the received word and the right one
     n = of_sheet[2]
     for word, codeword in pairs:
-        yield 0, in_bytes(word, n), (n + 7) // 8, in_answer(codeword, word, n)
+        yield 3, in_bytes(word, n), (n + 7) // 8, in_answer(codeword, word, n)
 
 
-def calls():
+def sheets_with_calls():
     draw = Sequence(20261115)
     yield H, cases(H, (10, 11), (1, 0), (127, 127))
     yield E, cases(E, (3, None), (28, 29))
@@ -349,18 +342,9 @@ def calls():
         told = answer(s).split()
         if told[0] == 'refused':
             yield s, refused_calls(told[1])
-    for s, *call in decode_calls():
-        yield s, [call]
 
 
-def main():
-    for s, of_sheet in calls():
-        for kind, given, room, told in of_sheet:
-            if sys.argv[1] == 'calls':
-                sys.stdout.buffer.write(bytes([kind, len(s), len(given), room] + s) + given)
-            else:
-                print(told)
-
-
-if __name__ == '__main__':
-    main()
+def decode_calls():
+    for s, calls in sheets_with_calls():
+        for call in calls:
+            yield s, *call

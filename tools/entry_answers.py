@@ -1,17 +1,9 @@
-#!/usr/bin/env python3
-# The calls of entries that the program crates/entry_answers makes, and the answers that it must write, made without any of its
-# code:
-#
-#     tools/entry_answers.py calls   > crates/entry_answers/stdin
-#     tools/entry_answers.py answers > crates/entry_answers/stdout
+# Calls of judge, card, encode and read, and what they are to answer, made without any of the product's code. tools/answers.py puts
+# them together with those of decode.
 #
 # For each sheet there are judge's answer, 'accepted n k s working d t terms' or 'refused number', the listing that card gives,
 # and what encode and read reply and leave in the buffer. Polynomials over two elements are sets of exponents, words numbers.
-# vectors.py adds calls whose answers other programs made.
-import sys
 from math import gcd
-
-sys.dont_write_bytecode = True
 
 
 def bits(mask):
@@ -300,22 +292,7 @@ def calls(sheet):
 SHEETS = list(known()) + list(drawn(400))
 
 
-def all_calls():
+def entry_calls():
     for s in SHEETS:
         for call in calls(s):
             yield s, *call
-    # here and not above, as it takes its functions from this file
-    from vectors import entry_calls
-    yield from entry_calls()
-
-
-def main():
-    for s, call, given, room, told in all_calls():
-        if sys.argv[1] == 'calls':
-            sys.stdout.buffer.write(bytes([call, len(s), len(given), room] + s) + given)
-        else:
-            print(told)
-
-
-if __name__ == '__main__':
-    main()

@@ -1,6 +1,5 @@
 #!/usr/bin/env python3
-# Calls of the entries whose answers were made elsewhere: tools/entry_answers.py and tools/decode_answers.py add them to the calls
-# of the programs crates/entry_answers and crates/decode_answers.
+# Calls of the entries whose answers were made elsewhere: tools/answers.py puts them among the calls of the program crates/vectors.
 #
 # tools/vectors/itpp.txt has BCH codes by IT++, tools/vectors/guava.txt cyclic codes by GAP and GUAVA; tools/vectors/make makes
 # both. What is done here is to find the sheet of each code: D from the generator, and a certificate. What documents 001 to 003
@@ -118,8 +117,7 @@ def refused():
                     yield changed, told[1]
 
 
-# The calls as entry_answers.py and decode_answers.py have them: a sheet, and the kind of call, the input, the buffer's length and
-# what is to be answered.
+# The calls as answers.py takes them: a sheet, and the kind of call, the input, the buffer's length and what is to be answered.
 def entry_calls():
     for code in codes():
         n, k, _ = numbers_of(code)
@@ -143,26 +141,28 @@ def decode_calls():
         for word, right in code.received:
             size = (n + 7) // 8
             if right is not None and (word ^ right).bit_count() <= t:
-                told = 'changed %d %s' % ((word ^ right).bit_count(), in_bytes(right, n).hex())
+                told = 'decode changed %d %s' % ((word ^ right).bit_count(), in_bytes(right, n).hex())
             else:
                 # IT++ failed, or GUAVA's nearest codeword is further than t
                 assert right is None or code.kind == 'cyclic'
-                told = 'refused 13 ' + 'aa' * size
-            yield code.sheet, 0, in_bytes(word, n), size, told
+                told = 'decode refused 13 ' + 'aa' * size
+            yield code.sheet, 3, in_bytes(word, n), size, told
     for changed, number in refused():
-        yield changed, 0, bytes(2), 2, 'refused %s aaaa' % number
+        yield changed, 3, bytes(2), 2, 'decode refused %s aaaa' % number
 
 
 PAGE = '''# Codes and words of other programs
 
-Two programs in the gate, `entry_answers` and `decode_answers`, are held to answers that were made elsewhere. `tools/vectors/make`
-makes them anew, and installs what it needs:
+A program in the gate, `vectors`, is held to answers that were made elsewhere: by IT++ for BCH codes, by GAP's GUAVA for small
+cyclic codes, and by a plain decoder in Python. `tools/vectors/make` makes those of the first two anew, and installs what it needs:
 
 - tools/vectors/itpp.txt: %(itpp)s;
 - tools/vectors/guava.txt: %(guava)s.
 
-`tools/vectors.py` finds the sheet of each code and turns the files into %(entries)d calls of judge, encode and read and %(decodes)d of
-decode, which stand at the end of the two programs' stored input and output. It has also written this page.
+`tools/vectors.py` finds the sheet of each code and turns the files into %(entries)d calls of judge, card, encode and read and
+%(decodes)d of decode. It has also written this page. The plain decoder is tools/decode_answers.py, which goes through error patterns or
+codewords; tools/entry_answers.py judges, lists, encodes and reads. docs/PROMISES.md says what they cover. `tools/answers.py`
+writes all calls and answers, crates/vectors/stdin and stdout.
 
 On a code of GUAVA's a word has 0 to 5 wrong places, on one of IT++'s 0 to t + 2, two words for each number.
 

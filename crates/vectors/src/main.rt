@@ -1,0 +1,66 @@
+// Calls of the entries from standard input, and for each what it answers. A call is four bytes, its kind, the lengths of sheet and
+// input, and the length of the buffer lent or of the words; then sheet and input. Kinds: 0 judge and card, 1 encode, 2 read,
+// 3 decode, 4 decode with every word of a length. tools/answers.py makes the calls, and the same answers with none of this code.
+mod every;
+mod line;
+mod sheets;
+mod words;
+
+use crate::line::wide;
+use libc::STDIN_FILENO;
+
+fn main() {
+    let mut left = 100000usize;
+    while 0 < left {
+        if !answer_call() {
+            return;
+        }
+        left = left - 1;
+    }
+}
+
+// False where the input has ended.
+fn answer_call() -> bool {
+    let mut head = [0u8; 4];
+    let mut sheet = [0u8; 80];
+    let mut input = [0u8; 20];
+    if io::read_full(STDIN_FILENO, &mut head) == 0 {
+        return false;
+    }
+    let size = wide(head[1]);
+    let count = wide(head[2]);
+    fetch(&mut sheet, size);
+    fetch(&mut input, count);
+    answer(head[0], &sheet, size, &input, count, wide(head[3]))
+}
+
+fn fetch(buffer: &mut [u8], size: usize) {
+    if buffer.len() < size {
+        return;
+    }
+    io::read_full(STDIN_FILENO, &mut buffer[..size]);
+}
+
+fn answer(kind: u8, sheet: &[u8], size: usize, input: &[u8], count: usize, room: usize) -> bool {
+    if sheet.len() < size {
+        return false;
+    }
+    if input.len() < count {
+        return false;
+    }
+    lines(kind, &sheet[..size], &input[..count], room);
+    true
+}
+
+fn lines(kind: u8, sheet: &[u8], input: &[u8], room: usize) {
+    if kind == 0 {
+        sheets::judge_line(sheet);
+        sheets::card_lines(sheet);
+        return;
+    }
+    if kind == 4 {
+        every::words_line(sheet, room);
+        return;
+    }
+    words::word_line(kind, sheet, input, room);
+}

@@ -1,0 +1,48 @@
+// Lines about sheets: judge's record, and card's listing.
+use crate::line::number;
+use code::card::card;
+use code::judge::judge;
+use document::answer::refusal_number;
+use document::types::Judged;
+use document::types::Record;
+use document::types::Refusal;
+use document::types::Reply;
+use libc::STDOUT_FILENO;
+
+pub fn judge_line(sheet: &[u8]) {
+    match judge(sheet) {
+        Judged::Accepted(r) => accepted_line(r),
+        Judged::Refused(r) => refused_line(r),
+    }
+}
+
+pub fn card_lines(sheet: &[u8]) {
+    let mut out = [0u8; 1024];
+    match card(sheet, &mut out) {
+        Reply::Done(size) => write_part(&out, size),
+        Reply::Refused(r) => refused_line(r),
+    }
+}
+
+fn write_part(text: &[u8], size: usize) {
+    if text.len() < size {
+        return;
+    }
+    io::write_all(STDOUT_FILENO, &text[..size]);
+}
+
+fn accepted_line(r: Record) {
+    number(b"accepted ", r.n);
+    number(b" ", r.k);
+    number(b" ", r.s);
+    number(b" ", r.working);
+    number(b" ", r.d);
+    number(b" ", r.t);
+    number(b" ", r.terms);
+    io::write_all(STDOUT_FILENO, b"\n");
+}
+
+fn refused_line(r: Refusal) {
+    number(b"refused ", refusal_number(r));
+    io::write_all(STDOUT_FILENO, b"\n");
+}

@@ -1,0 +1,60 @@
+// The line about one message or word: the entry, its reply, and the buffer afterwards, which holds AA before.
+use crate::line::hex;
+use crate::line::number;
+use code::decode::decode;
+use code::encode::encode;
+use code::read::read;
+use document::answer::refusal_number;
+use document::types::Reply;
+use libc::STDOUT_FILENO;
+
+pub fn word_line(kind: u8, sheet: &[u8], input: &[u8], room: usize) {
+    let mut out = [170u8; 20];
+    lent_line(kind, sheet, input, &mut out, room);
+}
+
+fn lent_line(kind: u8, sheet: &[u8], input: &[u8], out: &mut [u8], room: usize) {
+    if out.len() < room {
+        return;
+    }
+    let reply = reply_to(kind, sheet, input, &mut out[..room]);
+    reply_label(kind, reply);
+    hex(out, room);
+    io::write_all(STDOUT_FILENO, b"\n");
+}
+
+fn reply_to(kind: u8, sheet: &[u8], input: &[u8], out: &mut [u8]) -> Reply {
+    if kind == 1 {
+        return encode(sheet, input, out);
+    }
+    if kind == 2 {
+        return read(sheet, input, out);
+    }
+    decode(sheet, input, out)
+}
+
+fn reply_label(kind: u8, reply: Reply) {
+    if kind == 1 {
+        number(b"encode ", reply_number(reply));
+    } else if kind == 2 {
+        number(b"read ", reply_number(reply));
+    } else {
+        decode_label(reply);
+    }
+    io::write_all(STDOUT_FILENO, b" ");
+}
+
+// The number of changed places may be that of a refusal.
+fn decode_label(reply: Reply) {
+    match reply {
+        Reply::Done(n) => number(b"decode changed ", n),
+        Reply::Refused(r) => number(b"decode refused ", refusal_number(r)),
+    }
+}
+
+fn reply_number(reply: Reply) -> usize {
+    match reply {
+        Reply::Done(n) => n,
+        Reply::Refused(r) => refusal_number(r),
+    }
+}

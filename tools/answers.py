@@ -1,0 +1,36 @@
+#!/usr/bin/env python3
+# The calls that the program crates/vectors makes, and the answers that it must write, made without any of its code:
+#
+#     tools/answers.py calls   > crates/vectors/stdin
+#     tools/answers.py answers > crates/vectors/stdout
+#
+# entry_answers.py and decode_answers.py compute what is right, vectors.py has what other programs said. Each yields a sheet, the kind
+# of call (0 judge and card, 1 encode, 2 read, 3 decode, 4 decode with every word of a length), the input, the length of the buffer or
+# of the words, and the answer. A call is written as the kind and the three lengths, a byte each, the sheet and the input.
+import sys
+
+sys.dont_write_bytecode = True
+import decode_answers
+import entry_answers
+import vectors
+
+
+def all_calls():
+    yield from entry_answers.entry_calls()
+    yield from vectors.entry_calls()
+    yield from decode_answers.decode_calls()
+    yield from vectors.decode_calls()
+
+
+def main():
+    if sys.argv[1:] not in (['calls'], ['answers']):
+        sys.exit('usage: tools/answers.py calls|answers')
+    for sheet, kind, given, room, told in all_calls():
+        if sys.argv[1] == 'calls':
+            sys.stdout.buffer.write(bytes([kind, len(sheet), len(given), room] + sheet) + given)
+        else:
+            print(told)
+
+
+if __name__ == '__main__':
+    main()

@@ -65,10 +65,10 @@ extern "C" {
 
 /* Bytes of stack that a call takes, at most and for any input, its return address included; what memset and memmove of your C
  * library take for themselves is not counted. tools/stack measures the archive and writes these lines: docs/STACK.md. */
-#define DUNEFORK_ENCODE_STACK 836
-#define DUNEFORK_READ_STACK 852
-#define DUNEFORK_DECODE_STACK 71376
-#define DUNEFORK_CARD_STACK 0
+#define DUNEFORK_ENCODE_STACK 860
+#define DUNEFORK_READ_STACK 876
+#define DUNEFORK_DECODE_STACK 79784
+#define DUNEFORK_CARD_STACK 1100
 
 /* What a call returns where it refuses. The conditions are tried in this order; those of certificates (RANGE to TERM) for one
  * certificate after the other. examples/c/refusals.c draws each of them once, docs/SHEETS.md says what to do about it. */

@@ -34,42 +34,11 @@ fn places(
     requires { ⌜ Searchable n s c u (found .second) (found .len) (now v) (now x) (now e) (now g) (now lg) (now st) (now lo) (now hi) (now list) ⌝ }
     ensures { λ r. ⌜ Placed n s t c (found .second) (now (v .entry)) (now (x .entry)) (now (list .exit)) r ⌝ }
 {
+    let len = found.len;
     if found.second {
-        return locate(
-            n,
-            s,
-            c.z,
-            c.f,
-            u,
-            t,
-            x,
-            found.len,
-            e,
-            g,
-            lg,
-            st,
-            lo,
-            hi,
-            list,
-        );
+        return locate(n, s, c.z, c.f, u, t, x, len, e, g, lg, st, lo, hi, list);
     }
-    locate(
-        n,
-        s,
-        c.z,
-        c.f,
-        u,
-        t,
-        v,
-        found.len,
-        e,
-        g,
-        lg,
-        st,
-        lo,
-        hi,
-        list,
-    )
+    locate(n, s, c.z, c.f, u, t, v, len, e, g, lg, st, lo, hi, list)
 }
 
 // Whatever places a locator has, they are let through only if they are at most t and changing them gives a codeword.

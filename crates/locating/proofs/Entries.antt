@@ -22,7 +22,7 @@ use Rattle.field.proofs.Xor.{⊕-assoc, ⊕-zero-l, ⊕-zero-r}
 use Rattle.field.proofs.Primitive.{Degree-bounds}
 use Rattle.field.proofs.Numbers.{power-z, power-add, power-lt, logarithm-lt, logarithm-is, multiply-one, zero-multiply}
 use Rattle.masks.specs.Factor.{Modulus}
-use Rattle.locating.specs.Terms.{lanes, termSum, Listed}
+use Rattle.locating.specs.Terms.{lanes, termSum, Logged}
 use Rattle.tables.proofs.Exponents.{power-mod}
 use Rattle.locating.proofs.Residue.{power-zero, residue, residue-z, residue-s}
 use Rattle.locating.proofs.TermSums.{sum-z, sum-s, sum-ext}
@@ -49,7 +49,7 @@ pub record Word (s back f u k : ℕ) (lam lg st co : List ℕ) (o v c : ℕ) : T
   pub sum : (i j : ℕ) → j < 4
       → lane j (v ⊕ termSum s lg st (λ m. getD co m 0) i c) ≡ residue s f u lam (i * back) (o + j) k
 
-pub listed-start : {s : ℕ} {lg st : List ℕ} → Listed s 0 lg st
+pub listed-start : {s : ℕ} {lg st : List ℕ} → Logged s 0 lg st
 listed-start = record {
   lg-long = omega arith;
   st-long = omega arith;
@@ -93,7 +93,7 @@ module _ {s back k c x l at r : ℕ} {lam lg st : List ℕ} (n : Entry s back k 
   old : {m : ℕ} → m < c + r → m ≢ c → m < c
   old h e = omega (arith, n .once)
 
-  pub listed-more : Listed s c lg st → Listed s (c + r) (set lg c l) (set st c at)
+  pub listed-more : Logged s c lg st → Logged s (c + r) (set lg c l) (set st c at)
   listed-more v = record {
     lg-long = simp length-set (omega (arith, n .once, n .lg-room));
     st-long = simp length-set (omega (arith, n .once, n .st-room));

@@ -32,7 +32,7 @@ use Rattle.cyclic.proofs.Places.{coefficient-above}
 use Rattle.masks.specs.Factor.{Modulus}
 use Rattle.masks.proofs.Period.{modulus-top, modulus-lt, count-more}
 use Rattle.poly.specs.Slice.{Short, series}
-use Rattle.locating.specs.Terms.{lanes, termSum, vanishes, Listed, Walkable, Walked}
+use Rattle.locating.specs.Terms.{lanes, termSum, vanishes, Logged, Walkable, Walked}
 use Rattle.locating.proofs.Residue.{power-zero, residue, residue-high, divides-residues}
 use Rattle.locating.proofs.TermSums.{sum-z, sum-s, weight-fits}
 use Rattle.evaluation.specs.Lanes.{spaced, lane}
@@ -45,7 +45,7 @@ pub record Walking (s back f u k : ℕ) (lam lg st lo hi : List ℕ) (c at y : �
   pub at-is : at ≡ back * k % (2 ^ s - 1)
   pub at-lt : at < 2 ^ s - 1
   pub y-is : y ≡ remainder u f (2 ^ k)
-  pub listed : Listed s c lg st
+  pub listed : Logged s c lg st
   pub low : Word s back f u k lam lg st lo 0 (getD lam 0 0) c
   pub high : Word s back f u k lam lg st hi 4 0 c
 

@@ -6,7 +6,7 @@
 --   aloneAt, vanishesAlone  the same for f = 1 + x: the one coefficient of the remainder
 --   Locator                 a locator of at most len coefficients, and room for its terms
 --   Walkable, Walked        the locator's terms: what listing them needs, and leaves
---   Listed s c lg st        logarithms and steps of c terms
+--   Logged s c lg st        logarithms and steps of c terms
 --   Laned u c lo hi         the remainders of c terms, in lanes
 --   Searchable              all that a place needs
 use mathlib.Core.Path.{_≡_}
@@ -48,7 +48,7 @@ unfoldable pub vanishes : (s first c : ℕ) → (lg st lo hi : List ℕ) → ℕ
 vanishes s first c lg st lo hi i =
     eqb (termSum s lg st (λ m. getD hi m 0) i c) 0 && eqb (first ⊕ termSum s lg st (λ m. getD lo m 0) i c) 0
 
-pub record Listed (s c : ℕ) (lg st : List ℕ) : Type 0 where
+pub record Logged (s c : ℕ) (lg st : List ℕ) : Type 0 where
   pub lg-long : c ≤ length lg
   pub st-long : c ≤ length st
   pub logs : (m : ℕ) → m < c → getD lg m 0 < 2 ^ s - 1
@@ -83,7 +83,7 @@ pub record Walkable (s back f u len : ℕ) (lam g lg st lo hi : List ℕ) : Type
 
 -- at place i the c terms are those of the locator at ω^(i back) x
 pub record Walked (s back f u : ℕ) (lam lg st lo hi : List ℕ) (c : ℕ) : Type 0 where
-  pub listed : Listed s c lg st
+  pub listed : Logged s c lg st
   pub laned : Laned u c lo hi
   pub means : (d : Degree s) (i : ℕ)
       → (vanishes s (getD lam 0 0) c lg st lo hi i ≡ true)
@@ -91,5 +91,5 @@ pub record Walked (s back f u : ℕ) (lam lg st lo hi : List ℕ) (c : ℕ) : Ty
 
 pub record Searchable (s u c : ℕ) (lg st lo hi e : List ℕ) : Type 0 where
   pub powered : Powered s e
-  pub listed : Listed s c lg st
+  pub listed : Logged s c lg st
   pub laned : Laned u c lo hi

@@ -3,7 +3,7 @@ ghost use mathlib.Core.Path.{_≡_};
 ghost use Prim.Native.Nat.{_+_, _-_, _^_, _<_};
 ghost use Rattle.field.specs.Mask.{_⊕_};
 ghost use Rattle.tables.specs.Tables.{Powered};
-ghost use Rattle.locating.specs.Terms.{aloneAt, Listed};
+ghost use Rattle.locating.specs.Terms.{aloneAt, Logged};
 use crate::types::Four;
 use tables::exponent::index;
 
@@ -16,7 +16,7 @@ pub fn four(
     s: usize,
     e: &[u16],
 ) -> Four
-    requires { ⌜ Powered s (now e) × Listed s count (now lg) (now st) × (i < 2 ^ s - 1) ⌝ }
+    requires { ⌜ Powered s (now e) × Logged s count (now lg) (now st) × (i < 2 ^ s - 1) ⌝ }
     ensures { λ r. ⌜ (r .first ≡ aloneAt s constant count (now (lg .entry)) (now (st .entry)) i)
         × (r .second ≡ aloneAt s constant count (now (lg .entry)) (now (st .entry)) (i + 1))
         × (r .third ≡ aloneAt s constant count (now (lg .entry)) (now (st .entry)) (i + 2))

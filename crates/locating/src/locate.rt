@@ -2,7 +2,7 @@
 ghost use Prim.Native.Nat.{_-_, _^_, _<_, _≤_};
 ghost use lib.ListN.{length};
 ghost use Rattle.tables.specs.Tables.{Powered};
-ghost use Rattle.locating.specs.Terms.{vanishes as vanishesOf, vanishesAlone, Listed, Searchable};
+ghost use Rattle.locating.specs.Terms.{vanishes as vanishesOf, vanishesAlone, Logged, Searchable};
 ghost use Rattle.locating.specs.Locate.{Noted, NotedBelow, hits, Found, Search, Located};
 use crate::four::four;
 use crate::place::lanes_vanish;
@@ -16,6 +16,17 @@ fn note(hit: bool, list: &mut [u8], c: usize, i: usize) -> usize
 {
     list[c] = i as u8;
     if hit { 1 } else { 0 }
+}
+
+// The same for a place that may lie past the last, and is none then.
+fn note_below(n: usize, hit: bool, list: &mut [u8], c: usize, i: usize) -> usize
+    requires { ⌜ (n ≤ length (now list)) × (n ≤ 256) × (c ≤ i) ⌝ }
+    ensures { λ r. ⌜ NotedBelow n hit c i (now (list .entry)) (now (list .exit)) r ⌝ }
+{
+    if i < n {
+        return note(hit, list, c, i);
+    }
+    0
 }
 
 // Every place of n, until more than t are found.
@@ -51,17 +62,6 @@ fn search(
     c
 }
 
-// The same for a place that may lie past the last, and is none then.
-fn note_below(n: usize, hit: bool, list: &mut [u8], c: usize, i: usize) -> usize
-    requires { ⌜ (n ≤ length (now list)) × (n ≤ 256) × (c ≤ i) ⌝ }
-    ensures { λ r. ⌜ NotedBelow n hit c i (now (list .entry)) (now (list .exit)) r ⌝ }
-{
-    if i < n {
-        return note(hit, list, c, i);
-    }
-    0
-}
-
 // For f = 1 + x, four places at a time.
 fn search_fours(
     n: usize,
@@ -74,7 +74,7 @@ fn search_fours(
     e: &[u16],
     list: &mut [u8],
 ) -> usize
-    requires { ⌜ Powered s (now e) × Listed s count (now lg) (now st) × (n ≤ 2 ^ s - 1) × (n ≤ length (now list)) × (n ≤ 256) ⌝ }
+    requires { ⌜ Powered s (now e) × Logged s count (now lg) (now st) × (n ≤ 2 ^ s - 1) × (n ≤ length (now list)) × (n ≤ 256) ⌝ }
     ensures { λ r. ⌜ Found n t (hits n (vanishesAlone s constant count (now (lg .entry)) (now (st .entry)))) (now (list .exit)) r ⌝ }
 {
     let mut c: usize = 0;

@@ -8,7 +8,7 @@ use lib.ListN.{getD}
 use Rattle.field.proofs.Primitive.{Degree-bounds}
 use Rattle.tables.specs.Tables.{Powered}
 use Rattle.tables.proofs.Exponents.{looked, looked-on, looked-next}
-use Rattle.locating.specs.Terms.{aloneAt, Listed}
+use Rattle.locating.specs.Terms.{aloneAt, Logged}
 use Rattle.locating.proofs.TermSums.{Summing, summing-start, summing-one, summing-end}
 use Rattle.locating.proofs.four.four.Statement.{statement}
 use Rattle.locating.proofs.four.four.Tie as tie
@@ -17,7 +17,7 @@ use Rattle.locating.proofs.four.four.Lts as lts
 use Rattle.tables.proofs.exponent.index.Reads as index-reads
 
 abbrev Inv-loop : tie.InvT-loop
-Inv-loop constant lg st count i s e first₀ second₀ third₀ fourth₀ m₀ first second third fourth m = (Powered s e × Listed s count lg st × (i < 2 ^ s - 1)) × (m ≤ count) × Summing s constant lg st (λ k. 1) i m first × Summing s constant lg st (λ k. 1) (i + 1) m second × Summing s constant lg st (λ k. 1) (i + 2) m third × Summing s constant lg st (λ k. 1) (i + 3) m fourth
+Inv-loop constant lg st count i s e first₀ second₀ third₀ fourth₀ m₀ first second third fourth m = (Powered s e × Logged s count lg st × (i < 2 ^ s - 1)) × (m ≤ count) × Summing s constant lg st (λ k. 1) i m first × Summing s constant lg st (λ k. 1) (i + 1) m second × Summing s constant lg st (λ k. 1) (i + 2) m third × Summing s constant lg st (λ k. 1) (i + 3) m fourth
 
 abbrev μ-loop : tie.MeasureT-loop
 μ-loop constant lg st count i s e first₀ second₀ third₀ fourth₀ m₀ first second third fourth m = count - m

@@ -5,13 +5,13 @@ use Prim.Native.Nat.{ℕ, _-_, _^_, _≤_}
 use lib.Dec.{eqb}
 use lib.ListN.{length}
 use Rattle.tables.specs.Tables.{Powered}
-use Rattle.locating.specs.Terms.{vanishesAlone, Listed}
+use Rattle.locating.specs.Terms.{vanishesAlone, Logged}
 use Rattle.locating.proofs.Finding.{noted-below-le, Below, below-start, below-four, below-all, below-many}
 use Rattle.locating.proofs.locate.search_fours.Statement.{statement}
 use Rattle.locating.proofs.locate.search_fours.Tie as tie
 
 abbrev Inv-loop : tie.InvT-loop
-Inv-loop n t constant lg st count s e list₀ c₀ i₀ list c i = Powered s e × Listed s count lg st × (n ≤ 2 ^ s - 1) × (n ≤ 256) × (length list ≡ length list₀) × Below n (vanishesAlone s constant count lg st) i c list × (c ≤ t) × (c ≤ i)
+Inv-loop n t constant lg st count s e list₀ c₀ i₀ list c i = Powered s e × Logged s count lg st × (n ≤ 2 ^ s - 1) × (n ≤ 256) × (length list ≡ length list₀) × Below n (vanishesAlone s constant count lg st) i c list × (c ≤ t) × (c ≤ i)
 
 abbrev μ-loop : tie.MeasureT-loop
 μ-loop n t constant lg st count s e list₀ c₀ i₀ list c i = n - i

@@ -15,7 +15,6 @@ use lib.Pow.{pow-pos}
 use Rattle.algebra.proofs.Ring.{zero-mul as 𝟘-mul, one-mul as 𝟙-mul}
 use Rattle.algebra.proofs.Power.{pow}
 use Rattle.field.specs.Field.{Degree, orderOfTwo, α, fieldPower}
-use Rattle.field.specs.Mask.{size}
 use Rattle.field.proofs.Xor.{digit}
 use Rattle.field.proofs.Elements.{F, GF, el, el-zero, root}
 use Rattle.field.proofs.Numbers.{el-power, el-root}
@@ -29,16 +28,13 @@ use Rattle.document.specs.Sheet.{Certificate}
 use Rattle.document.specs.Coset.{inSet}
 use Rattle.document.specs.Generator.{valueAt}
 use Rattle.document.proofs.Theory.{Length, degree, of-T, root-mod}
-use Rattle.document.proofs.Demand2.{below-lt, value-is}
+use Rattle.document.proofs.Demand2.{value-is}
 use Rattle.distance.proofs.Rules.{Sound, in-range, covered-here, register-digit, theory}
 use Rattle.poly.specs.Slice.{Small, Short, series}
 use Rattle.binary.specs.Bits.{Holds}
 use Rattle.syndrome.specs.Value.{valueOf, Computed, Extended}
 use Rattle.syndrome.specs.Series.{Syndromes}
-
-value-lt : {s : ℕ} (d : Degree s) (a c : ℕ) → valueAt s a c < 2 ^ s
-unfolding valueAt
-value-lt d a c = below-lt d a c (size c)
+use Rattle.syndrome.proofs.Setting.{value-lt}
 
 -- val holds the word's values at α^i for every i of D
 pub record Known (n s : ℕ) (w reps val : List ℕ) : Type 0 where

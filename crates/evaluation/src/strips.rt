@@ -5,7 +5,8 @@ ghost use Rattle.evaluation.specs.Columns.{Summable, Strips, Valued};
 use tables::exponent::index;
 use tables::product::scaled;
 
-fn wide(x: u16) -> u64
+// A number in the lowest lane.
+pub fn wide(x: u16) -> u64
     ensures { λ r. ⌜ r ≡ x ⌝ }
 {
     x as u64

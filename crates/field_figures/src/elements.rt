@@ -1,7 +1,8 @@
 // Checksums over the elements of a degree: powers of 2, logarithms, inverses.
 ghost use Prim.Native.Nat.{_-_, _^_, _<_, _≤_};
 ghost use lib.ListN.{length};
-ghost use Rattle.field.specs.Field.{Degree};
+ghost use mathlib.Core.Path.{_≡_};
+ghost use Rattle.field.specs.Field.{Degree, orderOfTwo};
 ghost use Rattle.tables.specs.Tables.{Tables};
 use crate::checksum::add;
 use crate::checksum::size;
@@ -71,6 +72,7 @@ pub fn inverses(s: usize) -> u64
 // The order of 2 for the length 2^s - 1: s itself.
 pub fn order(s: usize) -> u64
     requires { ⌜ Degree s ⌝ }
+    ensures { λ r. ⌜ r ≡ orderOfTwo (2 ^ s - 1) ⌝ }
 {
     order_of_two(field::arithmetic::order(s)) as u64
 }

@@ -1,5 +1,6 @@
 // Whether a polynomial of degree s is primitive, found with none of the field's code: by walking the powers of x.
-ghost use Prim.Native.Nat.{_<_, _≤_};
+ghost use mathlib.Core.Path.{_≡_};
+ghost use Prim.Native.Nat.{_-_, _^_, _<_, _≤_};
 ghost use Rattle.field.specs.Field.{Degree};
 use crate::checksum::size;
 
@@ -37,6 +38,7 @@ pub fn primitive(s: usize, m: u16) -> u64
 // The masks of degree s below a given one, and how many of them are primitive.
 pub fn below(s: usize, end: u16) -> Counts
     requires { ⌜ Degree s ⌝ }
+    ensures { λ r. ⌜ (r .masks ≡ end - 2 ^ s) × (r .primitive ≤ r .masks) ⌝ }
 {
     let mut m = size(s);
     let mut masks = 0u64;

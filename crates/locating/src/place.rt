@@ -2,13 +2,8 @@
 ghost use mathlib.Core.Path.{_≡_};
 ghost use Prim.Native.Nat.{_-_, _^_, _<_};
 ghost use Rattle.locating.specs.Terms.{vanishes as vanishesOf, Searchable};
+use evaluation::strips::wide;
 use tables::exponent::term;
-
-fn wide(x: u16) -> u64
-    ensures { λ r. ⌜ r ≡ x ⌝ }
-{
-    x as u64
-}
 
 // For any f: a lane of two words for each coefficient, and so one load and two products a term.
 pub fn lanes_vanish(

@@ -1,12 +1,14 @@
 -- `field_figures::walk::below` meets its contract: there are fewer masks than numbers below the last.
 use borrow.Author.Needs.{needs}
-use Prim.Native.Nat.{_-_, _≤_}
+use mathlib.Core.Path.{_≡_}
+use native.Mathlib.Omega.{arith}
+use Prim.Native.Nat.{_+_, _-_, _^_, _≤_}
 use Rattle.field.specs.Field.{Degree}
 use Rattle.field_figures.proofs.walk.below.Statement.{statement}
 use Rattle.field_figures.proofs.walk.below.Tie as tie
 
 abbrev Inv-loop : tie.InvT-loop
-Inv-loop s end m₀ masks₀ found₀ m masks found = Degree s × (masks ≤ m) × (found ≤ masks)
+Inv-loop s end m₀ masks₀ found₀ m masks found = Degree s × (m ≡ 2 ^ s + masks) × (found ≤ masks) × (masks ≤ end - 2 ^ s)
 
 abbrev μ-loop : tie.MeasureT-loop
 μ-loop s end m₀ masks₀ found₀ m masks found = end - m

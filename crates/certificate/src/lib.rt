@@ -1,3 +1,3 @@
-// A certificate against its rules.
-pub mod check;
+// A certificate taken from the sheet, and rule 1.
+pub mod range;
 pub mod types;

@@ -31,11 +31,11 @@ use Rattle.document.specs.Generator.{generator, isCodeword, encodeMask, message
 use Rattle.document.specs.Judge.{dimensionOf}
 use Rattle.document.specs.Entry.{generatorOf, wordOf, encodedWord}
 use Rattle.document.proofs.Sane.{set-size}
-use Rattle.document.proofs.Theory.{Length}
-use Rattle.document.proofs.GeneratorIs.{generator-degree}
+use Rattle.theory.proofs.Theory.{Length}
+use Rattle.theory.proofs.GeneratorIs.{generator-degree}
 use Rattle.sheet.proofs.Header.{headed-length}
 use Rattle.binary.specs.Bits.{Holds, Divided, Any}
-use Rattle.generator.specs.Building.{Rising, Lengths, Building}
+use Rattle.factors.specs.Building.{Rising, Lengths, Building}
 use Rattle.word.specs.Place.{Spread, Packed}
 use Rattle.word.proofs.Places.{word-weights, message-weights, mask-lt}
 use Rattle.word.proofs.Spreading.{spread-part, spread-shifted, packed-is}

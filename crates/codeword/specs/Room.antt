@@ -22,7 +22,7 @@ use Rattle.document.specs.Judge.{judgeConditions, dimensionOf, workingOf, worki
 use Rattle.document.specs.Entry.{generatorOf, wordOf}
 use Rattle.sheet.specs.Stage.{Headed}
 use Rattle.binary.specs.Bits.{Holds}
-use Rattle.generator.specs.Building.{Rising}
+use Rattle.factors.specs.Building.{Rising}
 
 pub record Usable (sheet : List ℕ) (n k s : ℕ) : Type 0 where
   pub quiet : firstOf (judgeConditions sheet) ≡ 0

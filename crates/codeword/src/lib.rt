@@ -1,3 +1,2 @@
-// From an accepted sheet to codewords and messages in bytes.
+// The sheet's generator, and the test for a codeword.
 pub mod test;
-pub mod write;

@@ -6,9 +6,9 @@ ghost use Rattle.document.specs.Layout.{bytesFor};
 ghost use Rattle.codeword.specs.Room.{Usable, Fresh, Generated, Tested};
 use binary::bits::any;
 use binary::bits::divide;
-use generator::factors::generator;
+use generator::generator::generator;
 use sheet::sheet::byte;
-use word::spread::spread_word;
+use spreading::spread::spread_word;
 
 // The generator of an accepted sheet in place of 1 in g; its degree. p and w are room, and w holds 0 before and after.
 pub fn sheet_generator(

@@ -14,7 +14,7 @@ use lib.Pow.{pow-mono}
 use Rattle.algebra.proofs.Poly.{le-or-lt}
 use Rattle.field.specs.Field.{Degree}
 use Rattle.tables.specs.Tables as Tables
-use Rattle.document.proofs.Theory.{degree}
+use Rattle.theory.proofs.Theory.{degree}
 use Rattle.certificate.specs.declared.types.Certificate.{Certificate as CodeCertificate}
 use Rattle.certificate.specs.Rules.{certificateAs}
 use Rattle.distance.proofs.Rules.{in-range}

@@ -36,7 +36,7 @@ use Rattle.document.specs.Sheet.{Certificate}
 use Rattle.document.specs.Coset.{dimension}
 use Rattle.document.specs.Generator.{generator, isCodeword, differences}
 use Rattle.document.specs.Certificate.{radius, distance}
-use Rattle.document.proofs.Theory.{Length, degree, codeOf}
+use Rattle.theory.proofs.Theory.{Length, degree, codeOf}
 use Rattle.certificate.specs.declared.types.Certificate.{Certificate as CodeCertificate}
 use Rattle.certificate.specs.Rules.{Walkable, certificateAs}
 use Rattle.certificate.proofs.Ranges.{Ranged}
@@ -53,8 +53,8 @@ use Rattle.evaluation.proofs.Listing.{listed-none}
 use Rattle.syndrome.specs.Value.{Evaluable, Computable, Computed, Tested, Extendable, Comparable, Compared}
 use Rattle.syndrome.proofs.Setting.{rep-in}
 use Rattle.syndrome.specs.Series.{Syndromes}
-use Rattle.locating.specs.Locate.{Search}
-use Rattle.locating.specs.Locate as Places
+use Rattle.locator.specs.Locate.{Search}
+use Rattle.locator.specs.Locate as Places
 use Rattle.decoding.specs.declared.types.Correction.{Correction}
 use Rattle.decoding.specs.declared.types.Correction.the-variants.{Places, None}
 use Rattle.decoding.specs.Correct.{Given, Searchable, Placed, Passed, Correctable, placesOf, Codeword, Corrected}

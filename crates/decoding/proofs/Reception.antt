@@ -27,8 +27,8 @@ use Rattle.cyclic.proofs.Decode.{Received}
 use Rattle.document.specs.Sheet.{Certificate}
 use Rattle.document.specs.Coset.{inSet}
 use Rattle.document.specs.Generator.{valueAt}
-use Rattle.document.proofs.Theory.{Length, degree, of-T, root-mod}
-use Rattle.document.proofs.Demand2.{value-is}
+use Rattle.theory.proofs.Theory.{Length, degree, of-T, root-mod}
+use Rattle.theory.proofs.Demand2.{value-is}
 use Rattle.distance.proofs.Rules.{Sound, in-range, covered-here, register-digit, theory}
 use Rattle.poly.specs.Slice.{Small, Short, series}
 use Rattle.binary.specs.Bits.{Holds}

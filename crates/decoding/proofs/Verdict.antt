@@ -22,7 +22,7 @@ use Rattle.document.specs.Sheet.{Certificate}
 use Rattle.document.specs.Coset.{dimension}
 use Rattle.document.specs.Generator.{generator, isCodeword, differences}
 use Rattle.document.specs.Certificate.{radius}
-use Rattle.document.proofs.Theory.{Length, codeOf}
+use Rattle.theory.proofs.Theory.{Length, codeOf}
 use Rattle.distance.proofs.Rules.{Sound, theory}
 use Rattle.distance.proofs.Distance.{Word, near, differences-are}
 

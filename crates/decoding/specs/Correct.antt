@@ -16,7 +16,7 @@ use Rattle.tables.specs.Tables.{Tables}
 use Rattle.document.specs.Coset.{dimension}
 use Rattle.document.specs.Generator.{generator, isCodeword, differences}
 use Rattle.document.specs.Certificate.{radius}
-use Rattle.document.proofs.Theory.{Length}
+use Rattle.theory.proofs.Theory.{Length}
 use Rattle.certificate.specs.declared.types.Certificate.{Certificate as CodeCertificate}
 use Rattle.certificate.specs.Rules.{certificateAs}
 use Rattle.distance.proofs.Rules.{Sound}
@@ -24,7 +24,7 @@ use Rattle.binary.specs.Bits.{Holds}
 use Rattle.evaluation.specs.Sums.{Listed}
 use Rattle.poly.specs.Slice.{Short}
 use Rattle.syndrome.specs.Value.{Compared}
-use Rattle.locating.specs.Locate.{Search, Located}
+use Rattle.locator.specs.Locate.{Search, Located}
 use Rattle.decoding.specs.declared.types.Correction.{Correction}
 use Rattle.decoding.specs.declared.types.Correction.the-variants.{Places, None}
 

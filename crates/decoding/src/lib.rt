@@ -1,4 +1,3 @@
-// Decoding by the key equation: from a received word to the one codeword within t places, or that there is none.
-pub mod correct;
-pub mod room;
+// What decoding is held to, the laws that join its code to the theory, and the last test.
+pub mod finish;
 pub mod types;

@@ -31,8 +31,8 @@ use Rattle.document.specs.Sheet.{Certificate}
 use Rattle.document.specs.Coset.{dimension}
 use Rattle.document.specs.Generator.{generator, isCodeword, encodeMask, messageOf, differences, nearest}
 use Rattle.document.specs.Certificate.{distance, radius}
-use Rattle.document.proofs.Theory.{Length, codeOf}
-use Rattle.document.proofs.Demand2.{codeword-iff, encode-is-codeword, encode-lt, message-lt, codeword-is-encoding}
+use Rattle.theory.proofs.Theory.{Length, codeOf}
+use Rattle.theory.proofs.Demand2.{codeword-iff, encode-is-codeword, encode-lt, message-lt, codeword-is-encoding}
 use Rattle.distance.proofs.Rules.{Sound, theory, distance-is, radius-is}
 
 -- ---- places in which two words differ

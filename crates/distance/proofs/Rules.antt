@@ -36,7 +36,7 @@ use Rattle.cyclic.proofs.Certificate.{Certificate, syndromes}
 use Rattle.document.specs.Sheet.{codeLength, representatives, Certificate as Written, certificate}
 use Rattle.document.specs.Coset.{inSet}
 use Rattle.document.specs.Certificate.{rule1, rule2, rule3, rule4, distance, radius}
-use Rattle.document.proofs.Theory.{Length, T-of, codeOf}
+use Rattle.theory.proofs.Theory.{Length, T-of, codeOf}
 use Rattle.document.proofs.Acceptance.{Rules}
 use Rattle.certificate.proofs.Ranges.{Ranged, ranged}
 

@@ -17,7 +17,7 @@ use Rattle.document.specs.Judge.{wrongLength, wrongCodeLength, wrongDegree, wro
 use Rattle.document.specs.Judge.{dimensionOf, workingOf, workingCertificate, judgeOf}
 use Rattle.document.specs.Entry.{generatorOf, radiusOf, wordOf, nearestMessage, decodedWord}
 use Rattle.document.proofs.Sane.{passed, working-most}
-use Rattle.document.proofs.Theory.{Length}
+use Rattle.theory.proofs.Theory.{Length}
 use Rattle.document.proofs.Acceptance.{quiet-first, accepted-rules}
 use Rattle.sheet.specs.Stage.{Headed}
 use Rattle.sheet.proofs.Header.{headed, headed-length}

@@ -4,8 +4,4 @@ pub mod Sane
 pub mod Cosets
 pub mod Chain
 pub mod Acceptance
-pub mod Theory
-pub mod GeneratorIs
-pub mod Demand2
-pub mod Join
 pub mod Settled

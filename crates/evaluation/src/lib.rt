@@ -1,4 +1,2 @@
-// The value of a word at a power of ω: by a list of its ones, where they are few, and by columns.
-pub mod columns;
-pub mod strips;
+// The value of a word at a power of ω: definitions, laws, and the sum over a list of places.
 pub mod value;

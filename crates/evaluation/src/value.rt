@@ -3,7 +3,7 @@ ghost use mathlib.Core.Path.{_≡_};
 ghost use Prim.Native.Nat.{_*_, _^_, _<_};
 ghost use Rattle.field.specs.Field.{ω, fieldPower};
 ghost use Rattle.evaluation.specs.Sums.{Valuable, sumOver};
-use tables::exponent::term;
+use exponent::exponent::term;
 
 // The sum of ω^(i by) over the first c places i of the list.
 pub fn value(list: &[u8], c: usize, s: usize, by: u16, e: &[u16]) -> u16

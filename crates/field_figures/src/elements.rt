@@ -6,7 +6,7 @@ ghost use Rattle.field.specs.Field.{Degree, orderOfTwo};
 ghost use Rattle.tables.specs.Tables.{Tables};
 use crate::checksum::add;
 use crate::checksum::size;
-use field::degree::order_of_two;
+use degree::order::order_of_two;
 use field::types::Quotient;
 
 // The powers once round: 2^s - 1 of them.
@@ -14,7 +14,7 @@ pub fn powers(s: usize, e: &[u16]) -> u64
     requires { ⌜ Degree s × (2 ^ s - 1 ≤ length (now e)) ⌝ }
     ensures { λ r. ⌜ r < 4294967291 ⌝ }
 {
-    let n = field::arithmetic::order(s);
+    let n = arithmetic::product::order(s);
     let mut h = 0u64;
     let mut i = 0usize;
     while i < n {
@@ -27,7 +27,7 @@ pub fn powers(s: usize, e: &[u16]) -> u64
 fn log(s: usize, a: u16, e: &[u16], g: &[u16]) -> u16
     requires { ⌜ Tables s (now e) (now g) × (0 < a) × (a < 2 ^ s) ⌝ }
 {
-    tables::product::log(s, a, e, g) as u16
+    logarithm::product::log(s, a, e, g) as u16
 }
 
 // The logarithms of all elements but 0.
@@ -48,7 +48,7 @@ pub fn logs(s: usize, e: &[u16], g: &[u16]) -> u64
 fn inverse_or(s: usize, a: u16, absent: u16) -> u16
     requires { ⌜ Degree s × (a < 2 ^ s) ⌝ }
 {
-    let Quotient::Of(x) = field::arithmetic::inverse(s, a) else {
+    let Quotient::Of(x) = quotient::inverse::inverse(s, a) else {
         return absent;
     };
     x
@@ -74,5 +74,5 @@ pub fn order(s: usize) -> u64
     requires { ⌜ Degree s ⌝ }
     ensures { λ r. ⌜ r ≡ orderOfTwo (2 ^ s - 1) ⌝ }
 {
-    order_of_two(field::arithmetic::order(s)) as u64
+    order_of_two(arithmetic::product::order(s)) as u64
 }

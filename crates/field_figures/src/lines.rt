@@ -6,8 +6,8 @@ use crate::elements;
 use crate::products;
 use crate::products::Sums;
 use crate::walk;
-use field::arithmetic::mask;
-use field::degree::order_of_two;
+use arithmetic::product::mask;
+use degree::order::order_of_two;
 use libc::STDOUT_FILENO;
 
 fn number(label: &[u8], n: u64) {

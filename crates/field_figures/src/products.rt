@@ -17,8 +17,8 @@ fn with_product(s: usize, a: u16, b: u16, h: Sums, e: &[u16], g: &[u16]) -> Sums
     ensures { λ r. ⌜ Below r ⌝ }
 {
     Sums {
-        shifts: add(h.shifts, field::arithmetic::multiply(s, a, b)),
-        tables: add(h.tables, tables::product::multiply(s, a, b, e, g)),
+        shifts: add(h.shifts, arithmetic::product::multiply(s, a, b)),
+        tables: add(h.tables, logarithm::product::multiply(s, a, b, e, g)),
     }
 }
 

@@ -1,2 +1,2 @@
-// The generator of a code.
-pub mod factors;
+// The generator of a code, coset by coset.
+pub mod generator;

@@ -1,3 +1,2 @@
 // A sheet's certificates weighed, and its record.
 pub mod judge;
-pub mod types;

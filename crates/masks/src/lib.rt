@@ -1,2 +1,1 @@
-// Masks: polynomials over two elements as numbers. Common factors, degrees and periods, and the terms of a quotient of two.
-pub mod factor;
+// Factors of numbers and masks, the period of a mask, power series of masks: definitions and laws.

@@ -1,4 +1,3 @@
-// Polynomials over the field in lent slices: Euclid's algorithm on x^L and the syndromes, which solves the key equation.
-pub mod euclid;
-mod row;
+// Polynomials over the field in lent slices: multiples added in place, and how long a polynomial is.
+pub mod row;
 pub mod types;

@@ -3,7 +3,7 @@ ghost use Prim.Native.Nat.{_+_, _-_, _*_, _^_, _≤_};
 ghost use lib.ListN.{length};
 ghost use Rattle.poly.specs.Slice.{Short};
 ghost use Rattle.poly.specs.Division.{Addable, Added, AddedTwo, LengthOf};
-use tables::product::scaled;
+use exponent::scaled::scaled;
 
 // a + ω^k x^i b, where b has n coefficients.
 pub fn add_scaled(

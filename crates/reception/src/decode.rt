@@ -3,16 +3,16 @@ ghost use mathlib.Core.Path.{_≡_};
 ghost use Rattle.document.specs.Answer.{repliedAs};
 ghost use Rattle.document.specs.Entry.{decodeOf};
 ghost use Rattle.codeword.specs.Room.{Usable, Recorded};
-use certificate::check::read;
-use decoding::room::correct_word;
+use certificate::range::read;
 use decoding::types::Correction;
 use document::types::Refusal;
 use document::types::Reply;
 use repair::repair::repair;
+use room::room::correct_word;
 use sheet::sheet::byte;
+use spreading::spread::spread_word;
 use word::layout::bytes_for;
 use word::layout::spare_word;
-use word::spread::spread_word;
 
 // Refusals 11, 12 and 13, and the corrected word where none is drawn.
 pub fn decode_accepted(

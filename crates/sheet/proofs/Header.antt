@@ -17,7 +17,7 @@ use Rattle.field.specs.Field.{OddLength, orderOfTwo}
 use Rattle.document.specs.Sheet.{byteAt, numberAt, statedLength, codeLength, representativeCount, representativesAt}
 use Rattle.document.specs.Sheet.{certificateCount, zeroOf, certificatesAt}
 use Rattle.document.specs.Judge.{wrongLength, wrongCodeLength, wrongDegree, wrongHeader}
-use Rattle.document.proofs.Theory.{Length}
+use Rattle.theory.proofs.Theory.{Length}
 use Rattle.sheet.specs.Stage.{Headed}
 
 module _ (s : List ℕ) where

@@ -1,3 +1,2 @@
 // A code sheet taken apart: its header and its defining set.
-pub mod cosets;
 pub mod sheet;

@@ -62,7 +62,7 @@ pub fn wrong_degree(sheet: &[u8]) -> bool
     ensures { λ r. ⌜ r ≡ wrongDegree (now (sheet .entry)) ⌝ }
 {
     let n = byte(sheet, 2);
-    if 12 < field::degree::order_of_two(n) {
+    if 12 < degree::order::order_of_two(n) {
         return true;
     }
     false

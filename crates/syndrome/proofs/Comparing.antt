@@ -15,7 +15,7 @@ use Rattle.field.specs.Mask.{_⊕_}
 use Rattle.field.specs.Field.{orderOfTwo, ω, α, fieldPower}
 use Rattle.field.proofs.Xor.{⊕-self, ⊕-eq}
 use Rattle.document.specs.Generator.{valueBelow, valueAt}
-use Rattle.document.proofs.Demand2.{representatives-iff}
+use Rattle.theory.proofs.Demand2.{representatives-iff}
 use Rattle.evaluation.specs.Sums.{sumOver, Listed, Valuable}
 use Rattle.evaluation.proofs.Values.{value-of}
 use Rattle.evaluation.proofs.Roots.{root-by, value-all}

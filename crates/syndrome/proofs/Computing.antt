@@ -21,7 +21,7 @@ use Rattle.field.specs.Field.{orderOfTwo, ω, α, fieldPower}
 use Rattle.field.proofs.Search.{true-ne-false}
 use Rattle.field.proofs.Primitive.{Degree-bounds}
 use Rattle.document.specs.Generator.{valueBelow, valueAt}
-use Rattle.document.proofs.Demand2.{representatives-iff}
+use Rattle.theory.proofs.Demand2.{representatives-iff}
 use Rattle.binary.specs.Bits.{Holds}
 use Rattle.evaluation.specs.Columns.{Columnable, Columned, Summable, Valued}
 use Rattle.evaluation.proofs.Values.{value-of}

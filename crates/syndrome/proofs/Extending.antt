@@ -8,7 +8,7 @@ use Prim.Native.Nat.{ℕ, _+_, _*_, _%_, _^_, _≤_, _<_}
 use native.Mathlib.Decide.{ℕ-discrete}
 use native.Mathlib.Omega.{arith}
 use lib.ListN.{length, getD}
-use Rattle.document.proofs.Theory.{T-of, representatives}
+use Rattle.theory.proofs.Theory.{T-of, representatives}
 use Rattle.syndrome.specs.Value.{valueOf, HeldAt, Spreadable, Spread, Extendable, Extended}
 use Rattle.syndrome.proofs.Setting.{long, in-at, value-lt}
 

@@ -18,8 +18,8 @@ use Rattle.field.proofs.Value.{value}
 use Rattle.cyclic.proofs.Coset as Coset
 use Rattle.document.specs.Generator.{valueAt}
 use Rattle.document.proofs.Cosets.{turn-back, walk-start, walk-more}
-use Rattle.document.proofs.Theory.{degree, root-mod}
-use Rattle.document.proofs.Demand2.{value-is}
+use Rattle.theory.proofs.Theory.{degree, root-mod}
+use Rattle.theory.proofs.Demand2.{value-is}
 use Rattle.syndrome.specs.Value.{valueOf, Spreadable, Spread}
 use Rattle.syndrome.proofs.Setting.{value-lt}
 

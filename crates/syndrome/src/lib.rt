@@ -1,4 +1,2 @@
-// Values of words at powers of α.
-pub mod cosets;
+// The syndromes of a word: the certificate's terms times the word's values.
 pub mod series;
-pub mod test;

@@ -4,9 +4,9 @@ ghost use Prim.Native.Nat.{_*_, _%_, _≤_};
 ghost use lib.ListN.{length};
 ghost use Rattle.certificate.specs.Rules.{Walkable, certificateAs};
 ghost use Rattle.syndrome.specs.Series.{Syndromes};
-use certificate::check::next_register;
-use certificate::check::step;
 use certificate::types::Certificate;
+use rules::rules::next_register;
+use rules::rules::step;
 
 // y where the register's term is 1, else 0.
 fn term(num: usize, y: u16) -> u16

@@ -2,9 +2,9 @@
 ghost use mathlib.Core.Path.{_≡_};
 ghost use Prim.Native.Nat.{_+_, _-_, _*_, _^_, _<_, _≤_};
 ghost use Rattle.tables.specs.Tables.{Room, Powers, Logs, Filled};
-use field::arithmetic::double;
-use field::arithmetic::mask;
-use field::arithmetic::order;
+use arithmetic::product::double;
+use arithmetic::product::mask;
+use arithmetic::product::order;
 
 // The powers once round, and their logarithms.
 fn once(s: usize, n: usize, e: &mut [u16], g: &mut [u16])

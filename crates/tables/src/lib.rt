@@ -1,5 +1,2 @@
-// The tables of a degree in lent slices: the powers of ω for five rounds, and the logarithm of each
-// element; products and inverses by them, each equal to that of crate `field`.
-pub mod exponent;
+// The tables of a degree filled into lent slices: the powers of ω for five rounds, and the logarithm of each element.
 pub mod fill;
-pub mod product;

@@ -1,3 +1,2 @@
 // Words and messages in bytes.
 pub mod layout;
-pub mod spread;

@@ -2,9 +2,9 @@ use native.Mathlib.Omega.{arith}
 -- `code::decode::decode` meets its contract: judging says which.
 use mathlib.Core.Path.{sym, ap, _∙_}
 use Rattle.document.specs.Answer.{judgedAs}
-use Rattle.code.proofs.Accepted.{usable}
-use Rattle.code.proofs.Cards.{recorded}
-use Rattle.code.proofs.Entries.{decode-sheet}
+use Rattle.acceptance.proofs.Accepted.{usable}
+use Rattle.acceptance.proofs.Cards.{recorded}
+use Rattle.acceptance.proofs.Entries.{decode-sheet}
 use borrow.Author.Needs.{needs}
 use Rattle.code.proofs.decode.decode.Statement.{statement}
 use Rattle.code.proofs.decode.decode.Tie as tie

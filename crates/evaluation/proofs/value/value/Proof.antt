@@ -9,7 +9,7 @@ use Rattle.evaluation.proofs.value.value.Statement.{statement}
 use Rattle.evaluation.proofs.value.value.Tie as tie
 use Rattle.evaluation.proofs.value.value.Reads as reads
 use Rattle.evaluation.proofs.value.value.Lts as lts
-use Rattle.tables.proofs.exponent.term.Reads as term-reads
+use Rattle.exponent.proofs.exponent.term.Reads as term-reads
 
 abbrev Inv-loop : tie.InvT-loop
 Inv-loop list c s by e acc₀ k₀ acc k = Valuable c s by list e × (k ≤ c) × Valuing s by k acc list

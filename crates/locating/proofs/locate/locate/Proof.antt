@@ -3,16 +3,16 @@ use native.Mathlib.Omega.{arith}
 use mathlib.Core.Path.{ap}
 use Prim.Native.Nat.{ℕ, _/_}
 use Rattle.tables.proofs.Exponents.{powered-of}
-use Rattle.locating.proofs.Searching.{length-le, multiple-lt, multiple-fits, walkable, located, located-alone}
+use Rattle.locator.proofs.Searching.{length-le, multiple-lt, multiple-fits, walkable, located, located-alone}
 use borrow.Author.Needs.{needs}
 use Rattle.locating.proofs.locate.locate.Statement.{statement}
 use Rattle.locating.proofs.locate.locate.Tie as tie
 use Rattle.locating.proofs.locate.locate.Reads as reads
 use Rattle.locating.proofs.locate.locate.Lts as lts
-use Rattle.field.proofs.arithmetic.order.Reads as order-reads
-use Rattle.locating.proofs.locate.search.Reads as search-reads
-use Rattle.locating.proofs.locate.search_fours.Reads as search-fours-reads
-use Rattle.locating.proofs.walk.walk.Reads as walk-reads
+use Rattle.arithmetic.proofs.product.order.Reads as order-reads
+use Rattle.search.proofs.search.search.Reads as search-reads
+use Rattle.search.proofs.search.search_fours.Reads as search-fours-reads
+use Rattle.locator.proofs.walk.walk.Reads as walk-reads
 
 sub-back : tie.Need-sub-back
 sub-back c = search needs

@@ -10,13 +10,13 @@ use Rattle.reception.proofs.decode.decode_accepted.Statement.{statement
 use Rattle.reception.proofs.decode.decode_accepted.Tie as tie
 use Rattle.reception.proofs.decode.decode_accepted.Reads as reads
 use Rattle.reception.proofs.decode.decode_accepted.Lts as lts
-use Rattle.certificate.proofs.check.read.Reads as read-reads
-use Rattle.decoding.proofs.room.correct_word.Reads as correct-word-reads
+use Rattle.certificate.proofs.range.read.Reads as read-reads
+use Rattle.room.proofs.room.correct_word.Reads as correct-word-reads
 use Rattle.repair.proofs.repair.repair.Reads as repair-reads
 use Rattle.sheet.proofs.sheet.byte.Reads as byte-reads
 use Rattle.word.proofs.layout.bytes_for.Reads as bytes-for-reads
 use Rattle.word.proofs.layout.spare_word.Reads as spare-word-reads
-use Rattle.word.proofs.spread.spread_word.Reads as spread-word-reads
+use Rattle.spreading.proofs.spread.spread_word.Reads as spread-word-reads
 
 bytes-for-requires : tie.Need-bytes-for-requires
 bytes-for-requires c κs = search needs

@@ -11,8 +11,8 @@ use Rattle.syndrome.proofs.series.syndromes.Statement.{statement}
 use Rattle.syndrome.proofs.series.syndromes.Tie as tie
 use Rattle.syndrome.proofs.series.syndromes.Reads as reads
 use Rattle.syndrome.proofs.series.syndromes.Lts as lts
-use Rattle.certificate.proofs.check.next_register.Reads as next-register-reads
-use Rattle.certificate.proofs.check.step.Reads as step-reads
+use Rattle.rules.proofs.rules.next_register.Reads as next-register-reads
+use Rattle.rules.proofs.rules.step.Reads as step-reads
 use Rattle.syndrome.proofs.series.term.Reads as term-reads
 
 abbrev Inv-loop : tie.InvT-loop

@@ -12,7 +12,7 @@ use Rattle.tables.proofs.fill.fill.Statement.{statement}
 use Rattle.tables.proofs.fill.fill.Tie as tie
 use Rattle.tables.proofs.fill.fill.Reads as reads
 use Rattle.tables.proofs.fill.fill.Lts as lts
-use Rattle.field.proofs.arithmetic.order.Reads as order-reads
+use Rattle.arithmetic.proofs.product.order.Reads as order-reads
 use Rattle.tables.proofs.fill.once.Reads as once-reads
 
 abbrev Inv-loop : tie.InvT-loop

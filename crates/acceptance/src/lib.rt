@@ -1,0 +1,1 @@
+// What an accepted sheet grants the entries: laws only.

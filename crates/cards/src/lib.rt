@@ -1,0 +1,2 @@
+// The listing of an accepted sheet.
+pub mod card;

@@ -1,0 +1,62 @@
+use borrow.Author.Needs.{needs}
+use native.Mathlib.Omega.{arith}
+-- `columns::columns::columns` meets its contract: the first i columns are written.
+use mathlib.Core.Path.{_≡_, refl}
+use Prim.Native.Nat.{_-_, _≤_}
+use lib.ListN.{length, length-set}
+use Rattle.evaluation.specs.Columns.{Columnable}
+use Rattle.evaluation.proofs.Columning.{Columning, columning-start, columning-more, columning-end}
+use Rattle.columns.proofs.columns.columns.Statement.{statement}
+use Rattle.columns.proofs.columns.columns.Tie as tie
+use Rattle.columns.proofs.columns.columns.Reads as reads
+use Rattle.columns.proofs.columns.columns.Lts as lts
+use Rattle.columns.proofs.columns.column.Reads as column-reads
+
+abbrev Inv-loop : tie.InvT-loop
+Inv-loop w b col₀ i₀ col i = Columnable b w × (b ≤ length col₀) × (length col ≡ length col₀) × (i ≤ b) × Columning b i w col
+
+abbrev μ-loop : tie.MeasureT-loop
+μ-loop w b col₀ i₀ col i = b - i
+
+loop-holds : tie.Need-loop-holds Inv-loop μ-loop
+loop-holds c = (c .before .before .pre .0, c .before .before .pre .1, refl, omega arith, columning-start)
+
+column-requires : tie.Need-column-requires Inv-loop μ-loop
+column-requires c κs = (c .before .loop .inv .0, c .loop-test .taken)
+
+mul-col : tie.Need-mul-col Inv-loop μ-loop
+mul-col c = let v = c .before .before .loop .inv in omega (arith, v .0 .few, c .before .loop-test .taken)
+
+slice-write-col : tie.Need-slice-write-col Inv-loop μ-loop
+slice-write-col c = let v = c .before .before .loop .inv in omega (arith, v .1, v .2, c .before .loop-test .taken)
+
+add-i : tie.Need-add-i Inv-loop μ-loop
+add-i c = let v = c .before .before .loop .inv in omega (arith, v .0 .few, c .before .loop-test .taken)
+
+loop-less : tie.Need-loop-less Inv-loop μ-loop
+loop-less c = omega arith
+
+loop-again : tie.Need-loop-again Inv-loop μ-loop
+loop-again c = let v = c .before .before .loop .inv in (v .0, v .1, simp length-set (v .2), omega (arith, c .before .loop-test .taken), columning-more (omega (arith, v .1, v .2, c .before .loop-test .taken)) (c .column .ensures) (v .4))
+
+same-length : tie.Need-same-length Inv-loop μ-loop
+same-length c = c .before .loop .inv .2
+
+returns : tie.Need-returns Inv-loop μ-loop
+returns c = let v = c .before .loop .inv in columning-end (v .0 .bits) (omega (arith, c .loop-test .left)) (v .4)
+
+pub columns-spec : {M : Type 1} → statement M
+columns-spec =
+    tie.close
+    (tie.spec
+    Inv-loop
+    μ-loop
+    loop-holds
+    column-requires
+    mul-col
+    slice-write-col
+    add-i
+    loop-less
+    loop-again
+    same-length
+    returns)

@@ -1,0 +1,2 @@
+// A word in columns of four places.
+pub mod columns;

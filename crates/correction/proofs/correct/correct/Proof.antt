@@ -1,0 +1,119 @@
+use native.Mathlib.Omega.{arith}
+-- `correction::correct::correct` meets its contract: values, syndromes, rows, places, verdict.
+use mathlib.Core.Path.{refl}
+use Rattle.decoding.proofs.Reception.{known}
+use Rattle.decoding.proofs.Correcting.{computable, extendable, walkable, comparable, solvable, searchable, stop-fits, f-small, few, corrected, corrected-clean}
+use borrow.Author.Needs.{needs}
+use Rattle.correction.proofs.correct.correct.Statement.{statement}
+use Rattle.correction.proofs.correct.correct.Tie as tie
+use Rattle.correction.proofs.correct.correct.Reads as reads
+use Rattle.correction.proofs.correct.correct.Lts as lts
+use Rattle.correction.proofs.correct.places.Reads as places-reads
+use Rattle.decoding.proofs.finish.verdict.Reads as verdict-reads
+use Rattle.factor.proofs.factor.degree.Reads as degree-reads
+use Rattle.euclid.proofs.euclid.euclid.Reads as euclid-reads
+use Rattle.values.proofs.values.extend.Reads as extend-reads
+use Rattle.values.proofs.values.values.Reads as values-reads
+use Rattle.syndrome.proofs.series.syndromes.Reads as syndromes-reads
+
+values-requires : tie.Need-values-requires
+values-requires c κs = computable (c .before .before .before .before .before .before .before .before .before .before .before .before .before .before .before .before .before .pre)
+
+same-length : tie.Need-same-length
+same-length c = search needs
+
+same-length-2 : tie.Need-same-length-2
+same-length-2 c = search needs
+
+returns : tie.Need-returns
+returns c = corrected-clean (c .before .before .before .before .before .values .ensures .1) (c .if1 .taken)
+
+extend-requires : tie.Need-extend-requires
+extend-requires c κs = extendable (c .before .before .before .before .before .before .before .before .before .before .before .before .before .before .before .before .before .before .before .before .before .before .before .before .pre) (omega (arith, c .before .before .before .before .before .before .values .kept .1 .1 .1 .1 .1 .1 .1 .0)) (c .before .before .before .before .before .before .values .ensures .0)
+
+syndromes-requires : tie.Need-syndromes-requires
+syndromes-requires c κs = let p = c .before .before .before .before .before .before .before .before .before .before .before .before .before .before .before .before .before .before .before .before .before .before .before .before .before .before .before .before .before .pre in (walkable p (omega (arith, c .before .before .before .before .before .before .before .before .before .before .before .values .kept .1 .1 .1 .1 .1 .1 .1 .0, c .before .before .before .before .extend .kept .1 .1 .1 .1 .1 .0)), omega (arith, p .room .b-long))
+
+degree-requires : tie.Need-degree-requires
+degree-requires c κs = omega (arith, f-small (c .before .before .before .before .before .before .before .before .before .before .before .before .before .before .before .before .before .before .before .before .before .before .before .before .before .before .before .before .before .before .before .before .pre))
+
+mul-euclid : tie.Need-mul-euclid
+mul-euclid c = let p = c .before .before .before .before .before .before .before .before .before .before .before .before .before .before .before .before .before .before .before .before .before .before .before .before .before .before .before .before .before .before .before .before .before .before .before .before .before .pre in omega (arith, stop-fits (p .given) (c .before .before .before .before .degree .ensures), few p)
+
+sub-euclid : tie.Need-sub-euclid
+sub-euclid c = omega (arith, stop-fits (c .before .before .before .before .before .before .before .before .before .before .before .before .before .before .before .before .before .before .before .before .before .before .before .before .before .before .before .before .before .before .before .before .before .before .before .before .before .before .pre .given) (c .before .before .before .before .before .degree .ensures))
+
+euclid-requires : tie.Need-euclid-requires
+euclid-requires c κs = solvable (c .before .before .before .before .before .before .before .before .before .before .before .before .before .before .before .before .before .before .before .before .before .before .before .before .before .before .before .before .before .before .before .before .before .before .before .before .before .before .pre) (c .before .before .before .before .before .degree .ensures) (known (c .before .before .before .before .before .before .before .before .before .before .before .before .before .before .before .before .before .before .before .before .values .ensures .0) (c .before .before .before .before .before .before .before .before .before .before .before .before .before .extend .ensures)) (c .before .before .before .before .before .before .before .before .syndromes .ensures) (omega (arith, c .before .before .before .before .before .before .before .before .syndromes .kept .1 .1 .1 .0))
+
+places-requires : tie.Need-places-requires
+places-requires c κs = searchable (c .before .before .before .before .before .before .before .before .before .before .before .before .before .before .before .before .before .before .before .before .before .before .before .before .before .before .before .before .before .before .before .before .before .before .before .before .before .before .before .before .before .before .before .before .before .before .before .before .before .before .before .before .before .before .pre) (c .before .before .before .before .before .before .before .before .before .before .before .before .before .before .before .before .before .before .before .before .before .degree .ensures) (c .before .before .before .before .before .before .before .before .before .before .before .before .before .before .before .euclid .ensures) (omega (arith, c .before .before .before .before .before .before .before .before .before .before .before .before .before .before .before .euclid .kept .1 .1 .1 .0)) (omega (arith, c .before .before .before .before .before .before .before .before .before .before .before .before .before .before .before .euclid .kept .1 .1 .1 .1 .0))
+
+verdict-requires : tie.Need-verdict-requires
+verdict-requires c κs = comparable (c .before .before .before .before .before .before .before .before .before .before .before .before .before .before .before .before .before .before .before .before .before .before .before .before .before .before .before .before .before .before .before .before .before .before .before .before .before .before .before .before .before .before .before .before .before .before .before .before .before .before .before .before .before .before .before .before .before .before .before .before .before .before .before .before .before .before .before .pre) (c .before .before .before .before .before .before .before .before .before .before .before .before .places .ensures) (omega (arith, c .before .before .before .before .before .before .before .before .before .before .before .before .places .kept .1 .1 .1 .1 .1 .1 .1 .1 .1 .1 .1 .1 .1 .1 .0)) (omega (arith, c .before .before .before .before .before .before .before .before .before .before .before .before .before .before .before .before .before .before .before .before .before .before .before .before .before .before .before .before .before .before .before .before .before .before .before .before .before .before .before .before .before .before .before .before .before .before .before .before .before .values .kept .1 .1 .1 .1 .1 .1 .1 .0, c .before .before .before .before .before .before .before .before .before .before .before .before .before .before .before .before .before .before .before .before .before .before .before .before .before .before .before .before .before .before .before .before .before .before .before .before .before .before .before .before .before .before .extend .kept .1 .1 .1 .1 .1 .0))
+
+same-length-3 : tie.Need-same-length-3
+same-length-3 c = omega (arith, c .before .before .before .before .before .before .before .before .before .before .before .before .before .before .before .before .before .before .before .before .before .before .before .before .before .before .before .before .before .before .before .before .before .before .before .before .before .before .before .before .before .before .before .before .before .before .before .before .before .before .values .kept .1 .1 .1 .1 .1 .1 .0)
+
+same-length-4 : tie.Need-same-length-4
+same-length-4 c = omega (arith, c .before .before .before .before .before .before .before .before .before .before .before .before .before .before .before .before .before .before .before .before .before .before .before .before .before .before .before .before .before .before .before .before .before .before .before .before .before .before .before .before .before .before .before .before .before .before .before .before .before .before .values .kept .1 .1 .1 .1 .1 .1 .1 .0, c .before .before .before .before .before .before .before .before .before .before .before .before .before .before .before .before .before .before .before .before .before .before .before .before .before .before .before .before .before .before .before .before .before .before .before .before .before .before .before .before .before .before .before .extend .kept .1 .1 .1 .1 .1 .0)
+
+same-length-5 : tie.Need-same-length-5
+same-length-5 c = search needs
+
+same-length-6 : tie.Need-same-length-6
+same-length-6 c = omega (arith, c .before .before .before .before .before .before .before .before .before .before .before .before .before .before .before .before .before .before .before .before .before .before .before .before .before .before .before .before .before .before .before .before .before .before .before .before .before .before .syndromes .kept .1 .1 .1 .0, c .before .before .before .before .before .before .before .before .before .before .before .before .before .before .before .before .before .before .before .before .before .before .before .before .before .before .before .before .before .euclid .kept .1 .1 .0)
+
+same-length-7 : tie.Need-same-length-7
+same-length-7 c = search needs
+
+same-length-8 : tie.Need-same-length-8
+same-length-8 c = search needs
+
+same-length-9 : tie.Need-same-length-9
+same-length-9 c = search needs
+
+same-length-10 : tie.Need-same-length-10
+same-length-10 c = search needs
+
+same-length-11 : tie.Need-same-length-11
+same-length-11 c = search needs
+
+same-length-12 : tie.Need-same-length-12
+same-length-12 c = search needs
+
+same-length-13 : tie.Need-same-length-13
+same-length-13 c = search needs
+
+returns-2 : tie.Need-returns-2
+returns-2 c = let p = c .before .before .before .before .before .before .before .before .before .before .before .before .before .before .before .before .before .before .before .before .before .before .before .before .before .before .before .before .before .before .before .before .before .before .before .before .before .before .before .before .before .before .before .before .before .before .before .before .before .before .before .before .before .before .before .before .before .before .before .before .before .before .before .before .before .before .before .before .pre in
+    corrected (p .given) (known (c .before .before .before .before .before .before .before .before .before .before .before .before .before .before .before .before .before .before .before .before .before .before .before .before .before .before .before .before .before .before .before .before .before .before .before .before .before .before .before .before .before .before .before .before .before .before .before .before .before .before .values .ensures .0) (c .before .before .before .before .before .before .before .before .before .before .before .before .before .before .before .before .before .before .before .before .before .before .before .before .before .before .before .before .before .before .before .before .before .before .before .before .before .before .before .before .before .before .before .extend .ensures)) (c .before .before .before .before .before .before .before .before .before .before .before .before .before .before .before .before .before .before .before .before .before .before .before .before .before .before .before .before .before .before .before .before .before .before .before .before .before .before .syndromes .ensures) (p .room .b-zero) (c .before .before .before .before .before .before .before .before .before .before .before .before .before .before .before .before .before .before .before .before .before .before .before .before .before .before .before .before .before .before .before .before .before .before .before .degree .ensures) refl (c .before .before .before .before .before .before .before .before .before .before .before .before .before .before .before .before .before .before .before .before .before .before .before .before .before .before .before .before .before .euclid .ensures) (c .before .before .before .before .before .before .before .before .before .before .before .before .before .places .ensures) (c .verdict .ensures)
+
+pub correct-spec : {M : Type 1} → statement M
+correct-spec =
+    tie.close
+    (tie.spec
+    values-requires
+    same-length
+    same-length-2
+    returns
+    extend-requires
+    syndromes-requires
+    degree-requires
+    mul-euclid
+    sub-euclid
+    euclid-requires
+    places-requires
+    verdict-requires
+    same-length-3
+    same-length-4
+    same-length-5
+    same-length-6
+    same-length-7
+    same-length-8
+    same-length-9
+    same-length-10
+    same-length-11
+    same-length-12
+    same-length-13
+    returns-2)

@@ -1,0 +1,2 @@
+// Representatives and their cosets: refusal 5, and D marked.
+pub mod cosets;

@@ -1,0 +1,24 @@
+use borrow.Author.Needs.{needs}
+use native.Mathlib.Omega.{arith}
+-- `decoding::finish::verdict` meets its contract: one law for each exit.
+use Rattle.decoding.proofs.Correcting.{passed-many, passed-yes, passed-no}
+use Rattle.decoding.proofs.finish.verdict.Statement.{statement}
+use Rattle.decoding.proofs.finish.verdict.Tie as tie
+use Rattle.decoding.proofs.finish.verdict.Reads as reads
+use Rattle.decoding.proofs.finish.verdict.Lts as lts
+use Rattle.agreement.proofs.agrees.agrees.Reads as agrees-reads
+
+returns : tie.Need-returns
+returns c = passed-many (c .if1 .taken)
+
+agrees-requires : tie.Need-agrees-requires
+agrees-requires c κs = c .before .before .before .before .before .pre (c .if1 .left)
+
+returns-2 : tie.Need-returns-2
+returns-2 c = passed-yes (c .before .before .if1 .left) (c .before .agrees .ensures) (c .if2 .taken)
+
+returns-3 : tie.Need-returns-3
+returns-3 c = passed-no (c .before .before .if1 .left) (c .before .agrees .ensures) (c .if2 .left)
+
+pub verdict-spec : {M : Type 1} → statement M
+verdict-spec = tie.close (tie.spec returns agrees-requires returns-2 returns-3)

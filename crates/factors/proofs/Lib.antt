@@ -1,0 +1,4 @@
+pub mod TimesRoot
+pub mod CosetFactor
+pub mod Factor
+pub mod Assembly

@@ -1,0 +1,2 @@
+// The generator's factor of one coset.
+pub mod coset;

@@ -1,5 +1,0 @@
--- The generator, coset by coset.
-pub mod TimesRoot
-pub mod CosetFactor
-pub mod Factor
-pub mod Assembly

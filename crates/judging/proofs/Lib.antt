@@ -1,3 +1,0 @@
--- From certificates to the sheet's answer.
-pub mod Weighing
-pub mod Judging

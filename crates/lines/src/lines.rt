@@ -1,0 +1,100 @@
+// The lines of the listing, by the numbers that stand in them.
+ghost use Prim.Native.Nat.{_+_, _*_, _<_, _≤_};
+ghost use lib.ListN.{length};
+ghost use Rattle.word.specs.Place.{Binary};
+ghost use Rattle.text.specs.Wrote.{Wrote};
+ghost use Rattle.lines.specs.Text.{rows, member, memberIn, digitIn, zerosText, generatorText};
+ghost use Rattle.document.specs.Card.{codeText, certificateText, radiusText};
+use text::piece::put;
+use text::piece::put_field;
+use text::piece::put_spaced;
+use text::piece::put_text;
+
+pub fn code_line(out: &mut [u8], at: usize, n: usize, k: usize, s: usize) -> usize
+    requires { ⌜ (at + 20 ≤ length (now out)) × (n < 10000) × (k < 10000) × (s < 10000) ⌝ }
+    ensures { λ r. ⌜ Wrote (codeText n k s) at (now (out .entry)) (now (out .exit)) r × (r ≤ at + 20) ⌝ }
+{
+    let length = put_field(out, at, b"code", n);
+    let dimension = put_spaced(out, length, k);
+    let degree = put_spaced(out, dimension, s);
+    put(out, degree, 10)
+}
+
+// Place i, where it is marked.
+fn put_member(out: &mut [u8], at: usize, i: usize, mark: usize) -> usize
+    requires { ⌜ (at + 5 ≤ length (now out)) × (i < 10000) ⌝ }
+    ensures { λ r. ⌜ Wrote (member mark i) at (now (out .entry)) (now (out .exit)) r × (r ≤ at + 5) ⌝ }
+{
+    if mark == 0 {
+        return at;
+    }
+    put_spaced(out, at, i)
+}
+
+// The marked places below n, rising.
+fn put_members(out: &mut [u8], at: usize, n: usize, zeros: &[u8]) -> usize
+    requires { ⌜ (at + 5 * n ≤ length (now out)) × (n ≤ 127) × (n ≤ length (now zeros)) ⌝ }
+    ensures { λ r. ⌜ Wrote (rows (memberIn (now (zeros .entry))) n) at (now (out .entry)) (now (out .exit)) r × (r ≤ at + 5 * n) ⌝ }
+{
+    let mut end = at;
+    let mut i: usize = 0;
+    while i < n {
+        let mark = zeros[i] as usize;
+        end = put_member(out, end, i, mark);
+        i = i + 1;
+    }
+    end
+}
+
+pub fn zeros_line(out: &mut [u8], at: usize, n: usize, zeros: &[u8]) -> usize
+    requires { ⌜ (at + 5 * n + 6 ≤ length (now out)) × (n ≤ 127) × (n ≤ length (now zeros)) ⌝ }
+    ensures { λ r. ⌜ Wrote (zerosText (now (zeros .entry)) n) at (now (out .entry)) (now (out .exit)) r × (r ≤ at + 5 * n + 6) ⌝ }
+{
+    let word = put_text(out, at, b"zeros");
+    let set = put_members(out, word, n, zeros);
+    put(out, set, 10)
+}
+
+// The first coefficients of g, from x^0 up.
+fn put_digits(out: &mut [u8], at: usize, g: &[u8], count: usize) -> usize
+    requires { ⌜ (at + count ≤ length (now out)) × (count ≤ length (now g)) × Binary (now g) ⌝ }
+    ensures { λ r. ⌜ Wrote (rows (digitIn (now (g .entry))) count) at (now (out .entry)) (now (out .exit)) r × (r ≤ at + count) ⌝ }
+{
+    let mut end = at;
+    let mut j: usize = 0;
+    while j < count {
+        let digit = g[j] as usize;
+        end = put(out, end, 48 + digit);
+        j = j + 1;
+    }
+    end
+}
+
+// m is the generator's degree.
+pub fn generator_line(out: &mut [u8], at: usize, g: &[u8], m: usize) -> usize
+    requires { ⌜ (at + m + 12 ≤ length (now out)) × (m < length (now g)) × Binary (now g) ⌝ }
+    ensures { λ r. ⌜ Wrote (generatorText (now (g .entry)) m) at (now (out .entry)) (now (out .exit)) r × (r ≤ at + m + 12) ⌝ }
+{
+    let word = put_text(out, at, b"generator ");
+    let poly = put_digits(out, word, g, m + 1);
+    put(out, poly, 10)
+}
+
+pub fn certificate_line(out: &mut [u8], at: usize, i: usize, terms: usize, d: usize) -> usize
+    requires { ⌜ (at + 35 ≤ length (now out)) × (i < 10000) × (terms < 10000) × (d < 10000) ⌝ }
+    ensures { λ r. ⌜ Wrote (certificateText i terms d) at (now (out .entry)) (now (out .exit)) r × (r ≤ at + 35) ⌝ }
+{
+    let index = put_field(out, at, b"cert", i);
+    let count = put_field(out, index, b" terms", terms);
+    let distance = put_field(out, count, b" distance", d);
+    put(out, distance, 10)
+}
+
+pub fn radius_line(out: &mut [u8], at: usize, t: usize, working: usize) -> usize
+    requires { ⌜ (at + 27 ≤ length (now out)) × (t < 10000) × (working < 10000) ⌝ }
+    ensures { λ r. ⌜ Wrote (radiusText t working) at (now (out .entry)) (now (out .exit)) r × (r ≤ at + 27) ⌝ }
+{
+    let radius = put_field(out, at, b"radius", t);
+    let index = put_field(out, radius, b" from cert", working);
+    put(out, index, 10)
+}

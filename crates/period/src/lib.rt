@@ -1,0 +1,2 @@
+// The period of a mask.
+pub mod period;

@@ -1,0 +1,3 @@
+// Powers, inverses and quotients of elements; the inverse of 0 is answered as absent.
+pub mod inverse;
+pub mod power;

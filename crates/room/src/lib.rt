@@ -1,0 +1,2 @@
+// The arrays that correcting a word works in, by the code's size.
+pub mod room;

@@ -1,0 +1,2 @@
+// Rules 3 and 4 of a certificate.
+pub mod rules;

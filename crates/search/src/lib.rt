@@ -1,0 +1,2 @@
+// Every place searched, and those found listed, until there are more than t.
+pub mod search;

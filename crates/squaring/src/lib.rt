@@ -1,0 +1,2 @@
+// A word's values along a coset, by squaring.
+pub mod coset;

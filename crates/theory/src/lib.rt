@@ -1,0 +1,1 @@
+// Demand 2 in the words of the definitions: laws only.

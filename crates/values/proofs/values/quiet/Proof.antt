@@ -1,0 +1,18 @@
+use borrow.Author.Needs.{needs}
+use native.Mathlib.Omega.{arith}
+-- `values::values::quiet` meets its contract.
+use mathlib.Core.Path.{sym, ap}
+use Rattle.syndrome.proofs.Computing.{quiet-zero, quiet-other}
+use Rattle.values.proofs.values.quiet.Statement.{statement}
+use Rattle.values.proofs.values.quiet.Tie as tie
+use Rattle.values.proofs.values.quiet.Reads as reads
+use Rattle.values.proofs.values.quiet.Lts as lts
+
+returns : tie.Need-returns
+returns c = quiet-zero (c .if1 .taken)
+
+returns-2 : tie.Need-returns-2
+returns-2 c = quiet-other (c .before .args .clean) (c .if1 .left)
+
+pub quiet-spec : {M : Type 1} → statement M
+quiet-spec = tie.close (tie.spec returns returns-2)

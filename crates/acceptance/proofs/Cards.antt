@@ -23,8 +23,8 @@ use Rattle.document.proofs.Acceptance.{judge-number, quiet-of}
 use Rattle.sheet.specs.Stage.{Marks, Found}
 use Rattle.binary.specs.Bits.{Holds}
 use Rattle.codeword.specs.Room.{Usable, Recorded, Generated}
-use Rattle.lines.specs.Accepted.{Listable}
-use Rattle.lines.proofs.Cards.{listable-of}
+use Rattle.members.specs.Accepted.{Listable}
+use Rattle.members.proofs.Cards.{listable-of}
 use Rattle.acceptance.specs.Record.{Markable}
 use Rattle.weighing.proofs.Judging.{no-marks, marks-at}
 use Rattle.acceptance.proofs.Accepted.{judged-record, conditions}

@@ -1,2 +1,2 @@
-// Polynomials over two elements in slices of 0 and 1.
-pub mod bits;
+// Polynomials over two elements in slices of 0 and 1: definitions, laws and sums.
+pub mod sum;

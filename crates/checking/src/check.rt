@@ -34,7 +34,7 @@ pub fn check(sheet: &[u8], n: usize, reps: usize, i: usize, zeros: &[u8]) -> Che
     if wrong_range(n, c) {
         return Checked::Refused(Refusal::Range);
     }
-    if factor::factor::common(c.f, c.h) {
+    if common::common::common(c.f, c.h) {
         return Checked::Refused(Refusal::CommonFactor);
     }
     let u = factor::factor::degree(c.f);

@@ -5,11 +5,11 @@ ghost use Rattle.document.specs.Answer.{repliedAs};
 ghost use Rattle.document.specs.Card.{cardOf};
 use crate::judge::judge;
 use cards::card::card_accepted;
-use document::answer::refusal_number;
 use document::types::Judged;
 use document::types::Refusal;
 use document::types::Reply;
 use listing::page::write_refused;
+use refusal::number::refusal_number;
 
 // The listing of any sheet, refused ones too, into a lent buffer of 1,024 bytes, which holds every listing; its length.
 pub fn card(sheet: &[u8], out: &mut [u8]) -> Reply

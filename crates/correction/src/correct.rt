@@ -1,42 +1,20 @@
 // The places at which a received word is to be changed. Everything here is lent; room.rt has the arrays.
-ghost use Rattle.decoding.specs.Correct.{Searchable, Placed, Correctable, Corrected};
+ghost use Rattle.decoding.specs.Correct.{Chosen, Correctable, Corrected};
 use certificate::types::Certificate;
 use decoding::finish::verdict;
 use decoding::types::Correction;
 use euclid::euclid::euclid;
 use factor::factor::degree;
 use locating::locate::locate;
-use poly::types::Locator;
 use syndrome::series::syndromes;
 use values::values::extend;
 use values::values::values;
 
-// The places of the locator, which stands in x where `second`, and else in v.
-fn places(
-    n: usize,
-    s: usize,
-    t: usize,
-    c: Certificate,
-    u: usize,
-    found: Locator,
-    v: &[u16],
-    x: &[u16],
-    e: &[u16],
-    g: &[u16],
-    lg: &mut [u16],
-    st: &mut [u16],
-    lo: &mut [u64],
-    hi: &mut [u64],
-    list: &mut [u8],
-) -> usize
-    requires { ⌜ Searchable n s c u (found .second) (found .len) (now v) (now x) (now e) (now g) (now lg) (now st) (now lo) (now hi) (now list) ⌝ }
-    ensures { λ r. ⌜ Placed n s t c (found .second) (now (v .entry)) (now (x .entry)) (now (list .exit)) r ⌝ }
+// The slice that holds the locator: x where `second`, and else v.
+fn holder<'a>(second: bool, v: &'a [u16], x: &'a [u16]) -> &'a [u16]
+    ensures { λ r. ⌜ Chosen second (now (v .entry)) (now (x .entry)) (now r) ⌝ }
 {
-    let len = found.len;
-    if found.second {
-        return locate(n, s, c.z, c.f, u, t, x, len, e, g, lg, st, lo, hi, list);
-    }
-    locate(n, s, c.z, c.f, u, t, v, len, e, g, lg, st, lo, hi, list)
+    if second { x } else { v }
 }
 
 // The places, as a list, that turn w into the codeword within t places of it, if there is one.
@@ -71,6 +49,8 @@ pub fn correct(
     syndromes(n, c, val, b);
     let u = degree(c.f);
     let found = euclid(s, a, b, v, x, c.terms, c.terms - t * u, e, g);
-    let m = places(n, s, t, c, u, found, v, x, e, g, lg, st, lo, hi, list);
+    let lam = holder(found.second, v, x);
+    let len = found.len;
+    let m = locate(n, s, c.z, c.f, u, t, lam, len, e, g, lg, st, lo, hi, list);
     verdict(n, s, t, m, list, reps, val, e)
 }

@@ -4,8 +4,10 @@
 --   short-room, long-room      room for 63 terms, and for 1,023
 --   degree-of, terms-few       s is a degree of the table, and L at most 1,023
 --   small-tables, large-tables      room for the tables of a degree up to 8, and up to 12
-use mathlib.Core.Path.{_≡_, sym, _∙_, subst}
+--   any-terms    a long room holds any number of terms
+use mathlib.Core.Path.{_≡_, refl, sym, _∙_, subst}
 use mathlib.Core.Logic.{_⊎_, inl, inr}
+use mathlib.Core.Bool.{true, false}
 use mathlib.Core.List.{List}
 use Prim.Native.Nat.{ℕ, _*_, _-_, _^_, _≤_, _<_}
 use native.Mathlib.Omega.{arith}
@@ -13,6 +15,7 @@ use lib.ListN.{length, getD, replicate, length-replicate, getD-replicate, List·
 use lib.Pow.{pow-mono}
 use Rattle.algebra.proofs.Poly.{le-or-lt}
 use Rattle.field.specs.Field.{Degree}
+use Rattle.field.proofs.Search.{true-ne-false}
 use Rattle.tables.specs.Tables as Tables
 use Rattle.theory.proofs.Theory.{degree}
 use Rattle.certificate.specs.declared.types.Certificate.{Certificate as CodeCertificate}
@@ -81,3 +84,6 @@ small-tables {s} d h = let b : 2 ^ s ≤ 2 ^ 8 = pow-mono h in record { degree =
 
 pub large-tables : {s : ℕ} → Degree s → Tables.Room s (replicate 20480 0) (replicate 4096 0)
 large-tables {s} d = let b : 2 ^ s ≤ 2 ^ 12 = pow-mono (d .hi) in record { degree = d; e-long = omega arith; g-long = omega arith }
+
+pub any-terms : {L : ℕ} → true ≡ false → L < 64
+any-terms e = absurd (true-ne-false refl e)

@@ -1,8 +1,8 @@
 -- The parts of correcting a word, joined.
 --
---   setting, computable, extendable, walkable, comparable, solvable, searchable      what each part needs of what was there before
---   stop-fits, f-small, few      t u is at most L, f below 512, L at most 1,023
---   placed-v, placed-x      the slice that holds the locator
+--   setting, computable, extendable, walkable, comparable, solvable, search      what each part needs of what was there before
+--   stop-fits, stop-word, f-small, b-enough      t u is at most L and fits a word, f is below 2^16, and b has L places
+--   chosen-v, chosen-x, chosen-solved      the slice that holds the locator
 --   passed-many, passed-yes, passed-no      the exits of the last test
 --   corrected-clean      a codeword stays as it is
 --   exit-many, exit-tested, passed      what they say of the received word
@@ -16,6 +16,8 @@ use native.Mathlib.Decide.{decLt}
 use native.Mathlib.Omega.{arith}
 use lib.ListN.{length, getD}
 use lib.Pow.{pow-pos}
+use mir.Syntax.{w64}
+use mir.Val.{Fits}
 use Rattle.algebra.proofs.Coprime.{Divides}
 use Rattle.algebra.proofs.Poly.{Polys}
 use Rattle.algebra.proofs.Alternant.{factor}
@@ -57,7 +59,7 @@ use Rattle.locator.specs.Locate.{Search}
 use Rattle.locator.specs.Locate as Places
 use Rattle.decoding.specs.declared.types.Correction.{Correction}
 use Rattle.decoding.specs.declared.types.Correction.the-variants.{Places, None}
-use Rattle.decoding.specs.Correct.{Given, Searchable, Placed, Passed, Correctable, placesOf, Codeword, Corrected}
+use Rattle.decoding.specs.Correct.{Given, Chosen, Passed, Correctable, placesOf, Codeword, Corrected}
 use Rattle.decoding.proofs.Reception.{Known, syndromes-short, syndromes-small, received}
 use Rattle.decoding.proofs.Verdict.{far-many, far-other, close-here}
 
@@ -74,6 +76,35 @@ module _ {n s t : ℕ} {c : CodeCertificate} {reps : List ℕ} (p : Given n s t 
   stop-fits {u} e =
       subst (λ (x : ℕ). x ≤ c .terms) (ap₂ _*_ (sym (p .t-is)) (sym e))
       (stop-fits₀ (c .terms) (degreeOf (c .f)) (degreeOf (c .h)) (range .v))
+
+  pub stop-word : {u : ℕ} → u ≡ degreeOf (c .f) → Fits w64 (t * u)
+  stop-word e = omega (arith, stop-fits e, range .L-high)
+
+-- ---- the slice that holds the locator
+differ : true ≡ false → ⊥
+differ e = true-ne-false refl e
+
+module _ {second : Bool} {v x : List ℕ} where
+  pub chosen-v : second ≡ false → Chosen second v x v
+  chosen-v e = record { first = λ _. refl; last = λ q. absurd (differ (sym q ∙ e)) }
+
+  pub chosen-x : second ≡ true → Chosen second v x x
+  chosen-x e = record { first = λ q. absurd (differ (sym e ∙ q)); last = λ _. refl }
+
+  module _ {lam : List ℕ} (h : Chosen second v x lam) where
+    chosen-solved : {s l τ len : ℕ} {S : List ℕ} → Outcome s l τ S second len v x → Solved s l τ S lam len
+    chosen-solved {s} {l} {τ} {len} {S} o = go second refl
+      where
+        go : (y : Bool) → second ≡ y → Solved s l τ S lam len
+        go false e = subst (λ (i : List ℕ). Solved s l τ S i len) (sym (h .first e)) (o .in-v e)
+        go true e = subst (λ (i : List ℕ). Solved s l τ S i len) (sym (h .last e)) (o .in-w e)
+
+    chosen-long : {k : ℕ} → length v ≤ k → length x ≤ k → length lam ≤ k
+    chosen-long {k} lv lx = go second refl
+      where
+        go : (y : Bool) → second ≡ y → length lam ≤ k
+        go false e = subst (λ (i : List ℕ). length i ≤ k) (sym (h .first e)) lv
+        go true e = subst (λ (i : List ℕ). length i ≤ k) (sym (h .last e)) lx
 
 -- ---- what the parts need
 module _ {n s t : ℕ} {c : CodeCertificate} {reps e g col val a b v x lg st lo hi list w : List ℕ}
@@ -108,29 +139,24 @@ module _ {n s t : ℕ} {c : CodeCertificate} {reps e g col val a b v x lg st lo 
   pub walkable : {val′ : List ℕ} → length val′ ≡ length val → Walkable n c val′
   walkable e = walkable-ranged (range (p .given)) (p .given .most) (omega (arith, e, p .room .val-long))
 
-  pub f-small : c .f < 512
-  f-small = f-fits (walkable {val′ = val} refl)
+  pub f-small : c .f < 65536
+  f-small = omega (arith, f-fits (walkable {val′ = val} refl))
 
-  pub few : c .terms ≤ 1023
-  few = range (p .given) .L-high
+  pub b-enough : c .terms ≤ length b
+  b-enough = omega (arith, p .room .b-long)
 
   -- where they are at most t, the places are listed
-  pub comparable : {m : ℕ} {second : Bool} {v′ x′ list′ val′ : List ℕ} → Placed n s t c second v′ x′ list′ m → length list′ ≡ length list
+  pub comparable : {m : ℕ} {lam list′ val′ : List ℕ} → Places.Located n s (c .z) (c .f) t lam list′ m → length list′ ≡ length list
       → length val′ ≡ length val → m ≤ t → Comparable n s m list′ reps val′ e
-  comparable {m} {second = second} {list′ = list′} {val′} y ll lv h = go second refl
-    where
-      by : {a : ℕ} → Listed n a list′ m → Comparable n s m list′ reps val′ e
-      by q = record {
+  comparable y ll lv h =
+      let q = y .found .all h .1 in
+      record {
         setting = setting;
         long = omega (arith, q .le, ll, p .room .list-long);
         few = q .le;
         places = q .below;
         val-long = omega (arith, lv, p .room .val-long);
       }
-
-      go : (z : Bool) → second ≡ z → Comparable n s m list′ reps val′ e
-      go false e = by (y .by-v e .found .all h .1)
-      go true e = by (y .by-x e .found .all h .1)
 
   pub solvable : {u : ℕ} {val′ b′ : List ℕ} → u ≡ degreeOf (c .f) → Known n s w reps val′ → Syndromes n (certificateAs c) val′ b b′
       → length b′ ≡ length b → Solvable s (c .terms) (c .terms - t * u) a b′ v x e g
@@ -152,57 +178,33 @@ module _ {n s t : ℕ} {c : CodeCertificate} {reps e g col val a b v x lg st lo 
     w-long = p .room .x-long;
   }
 
-  module _ {u τ len : ℕ} {S v′ x′ : List ℕ} {second : Bool} (eu : u ≡ degreeOf (c .f)) (o : Outcome s (c .terms) τ S second len v′ x′)
-      (lv : length v′ ≡ length v) (lx : length x′ ≡ length x) where
-    search : {lam : List ℕ} → Solved s (c .terms) τ S lam len → (len ≤ length lg) × (len ≤ length st) × (len ≤ length lo) × (len ≤ length hi)
-        → Search n s (c .z) (c .f) u len lam e g lg st lo hi list
-    search y q = record {
-      tables = p .tables;
-      odd = p .given .length-of .odd;
-      s-is = p .given .s-is;
-      z-lo = range (p .given) .z-low;
-      z-hi = omega (arith, range (p .given) .z-high, range (p .given) .z-low);
-      modulus = modulus-of (range (p .given)) eu;
-      locator = record {
-        small = y .small;
-        short = y .short;
-        pos = y .pos;
-        lam-long = y .long;
-        lg-long = q .0;
-        st-long = q .1;
-        lo-long = q .2;
-        hi-long = q .3;
-      };
-      list-long = p .room .list-long;
-      few = omega (arith, p .given .most);
-    }
-
-    pub searchable : Searchable n s c u second len v′ x′ e g lg st lo hi list
-    searchable = record {
-      in-v = λ q. search (o .in-v q) (
-        omega (arith, o .in-v q .long, lv, p .room .lg-long .0),
-        omega (arith, o .in-v q .long, lv, p .room .st-long .0),
-        omega (arith, o .in-v q .long, lv, p .room .lo-long .0),
-        omega (arith, o .in-v q .long, lv, p .room .hi-long .0),
-      );
-      in-x = λ q. search (o .in-w q) (
-        omega (arith, o .in-w q .long, lx, p .room .lg-long .1),
-        omega (arith, o .in-w q .long, lx, p .room .st-long .1),
-        omega (arith, o .in-w q .long, lx, p .room .lo-long .1),
-        omega (arith, o .in-w q .long, lx, p .room .hi-long .1),
-      );
-    }
-
--- ---- the slice that holds the locator
-differ : true ≡ false → ⊥
-differ e = true-ne-false refl e
-
-module _ {n s t m : ℕ} {c : CodeCertificate} {second : Bool} {v x list : List ℕ} where
-  pub placed-v : second ≡ false → Places.Located n s (c .z) (c .f) t v list m → Placed n s t c second v x list m
-  placed-v e y = record { by-v = λ _. y; by-x = λ q. absurd (differ (sym q ∙ e)) }
-
-  pub placed-x : second ≡ true → Places.Located n s (c .z) (c .f) t x list m → Placed n s t c second v x list m
-  placed-x e y = record { by-v = λ q. absurd (differ (sym e ∙ q)); by-x = λ _. y }
+  pub search : {u τ len : ℕ} {S v′ x′ lam : List ℕ} {second : Bool} → u ≡ degreeOf (c .f) → Outcome s (c .terms) τ S second len v′ x′
+      → Chosen second v′ x′ lam → length v′ ≡ length v → length x′ ≡ length x → Search n s (c .z) (c .f) u len lam e g lg st lo hi list
+  search {len = len} {lam = lam} eu o h lv lx =
+      let y = chosen-solved h o in
+      record {
+        tables = p .tables;
+        odd = p .given .length-of .odd;
+        s-is = p .given .s-is;
+        z-lo = range (p .given) .z-low;
+        z-hi = omega (arith, range (p .given) .z-high, range (p .given) .z-low);
+        modulus = modulus-of (range (p .given)) eu;
+        locator = record {
+          small = y .small;
+          short = y .short;
+          pos = y .pos;
+          lam-long = y .long;
+          lg-long = long (p .room .lg-long);
+          st-long = long (p .room .st-long);
+          lo-long = long (p .room .lo-long);
+          hi-long = long (p .room .hi-long);
+        };
+        list-long = p .room .list-long;
+        few = omega (arith, p .given .most);
+      }
+    where
+      long : {k : ℕ} → (length v ≤ k) × (length x ≤ k) → len ≤ k
+      long {k} q = omega (arith, chosen-solved h o .long, chosen-long h {k = k} (omega (arith, lv, q .0)) (omega (arith, lx, q .1)))
 
 -- ---- the last test
 module _ {n s t m : ℕ} {list reps val : List ℕ} where
@@ -363,11 +365,8 @@ module _ {n s t : ℕ} {c : CodeCertificate} {reps : List ℕ} (p : Given n s t 
           (subst (λ (i : ℕ). Solved i (c .terms) τ b′ lam len) e solved) (subst (λ (i : ℕ). Places.Located n i (c .z) (c .f) t lam list m) e marked)
           (subst (λ (i : ℕ). Passed n i t m list reps val answer) e k)
 
-  pub corrected : {v x : List ℕ} {u : ℕ} {second : Bool} → Known n s w reps val → Syndromes n (certificateAs c) val b b′ → Short 0 b → u ≡ degreeOf (c .f)
-      → τ ≡ c .terms - t * u → Outcome s (c .terms) τ b′ second len v x → Placed n s t c second v x list m → Passed n s t m list reps val answer
-      → Corrected n t reps w list answer
-  corrected {second = second} values written fresh eu eτ o marked k = go second refl
-    where
-      go : (y : Bool) → second ≡ y → Corrected n t reps w list answer
-      go false e = at-own values written fresh (eτ ∙ ap (λ (i : ℕ). c .terms - t * i) eu) (o .in-v e) (marked .by-v e) k
-      go true e = at-own values written fresh (eτ ∙ ap (λ (i : ℕ). c .terms - t * i) eu) (o .in-w e) (marked .by-x e) k
+  pub corrected : {v x lam : List ℕ} {u : ℕ} {second : Bool} → Known n s w reps val → Syndromes n (certificateAs c) val b b′ → Short 0 b
+      → u ≡ degreeOf (c .f) → τ ≡ c .terms - t * u → Outcome s (c .terms) τ b′ second len v x → Chosen second v x lam
+      → Places.Located n s (c .z) (c .f) t lam list m → Passed n s t m list reps val answer → Corrected n t reps w list answer
+  corrected values written fresh eu eτ o h marked k =
+      at-own values written fresh (eτ ∙ ap (λ (i : ℕ). c .terms - t * i) eu) (chosen-solved h o) marked k

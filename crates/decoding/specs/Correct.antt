@@ -1,7 +1,7 @@
 -- What correcting a word asks for, and says. No entry's contract cites this file.
 --
 --   Given n s t c reps       a certificate that keeps rules 1 to 4, with its radius
---   Searchable, Placed       the places of a locator that stands in one of two slices
+--   Chosen                   one of two slices
 --   placesOf, Passed         the number of changed places or nothing, and what the last test lets through
 --   Room, Held, Correctable      lent slices that are long enough and hold 0 where they must, and a word
 --   Corrected                the codeword within t places, or that there is none
@@ -24,7 +24,6 @@ use Rattle.binary.specs.Bits.{Holds}
 use Rattle.evaluation.specs.Sums.{Listed}
 use Rattle.poly.specs.Slice.{Short}
 use Rattle.syndrome.specs.Value.{Compared}
-use Rattle.locator.specs.Locate.{Search, Located}
 use Rattle.decoding.specs.declared.types.Correction.{Correction}
 use Rattle.decoding.specs.declared.types.Correction.the-variants.{Places, None}
 
@@ -36,14 +35,10 @@ pub record Given (n s t : ℕ) (c : CodeCertificate) (reps : List ℕ) : Type 0 
   pub sound : Sound n reps (certificateAs c)
   pub t-is : t ≡ radius (certificateAs c)
 
--- ---- the places of a locator
-pub record Searchable (n s : ℕ) (c : CodeCertificate) (u : ℕ) (second : Bool) (len : ℕ) (v x e g lg st lo hi list : List ℕ) : Type 0 where
-  pub in-v : second ≡ false → Search n s (c .z) (c .f) u len v e g lg st lo hi list
-  pub in-x : second ≡ true → Search n s (c .z) (c .f) u len x e g lg st lo hi list
-
-pub record Placed (n s t : ℕ) (c : CodeCertificate) (second : Bool) (v x list : List ℕ) (r : ℕ) : Type 0 where
-  pub by-v : second ≡ false → Located n s (c .z) (c .f) t v list r
-  pub by-x : second ≡ true → Located n s (c .z) (c .f) t x list r
+-- ---- one of two slices
+pub record Chosen (second : Bool) (v x lam : List ℕ) : Type 0 where
+  pub first : second ≡ false → lam ≡ v
+  pub last : second ≡ true → lam ≡ x
 
 -- ---- the last test
 -- the number of changed places, or nothing

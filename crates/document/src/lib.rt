@@ -1,3 +1,2 @@
-// Document 01 as definitions (specs), with what is true of them (proofs); the answers of the entries.
-pub mod answer;
+// Document 01 as definitions (specs), with what is true of them (proofs); the types of the entries' answers.
 pub mod types;

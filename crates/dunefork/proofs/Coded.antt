@@ -29,7 +29,7 @@ use Rattle.field.proofs.Xor.{digit-lt}
 use Rattle.cyclic.proofs.Places.{count, count-z, count-s}
 use Rattle.distance.proofs.Distance.{differences-are}
 use Rattle.weighing.proofs.Weighing.{number-pos}
-use Rattle.lines.proofs.Cards.{card-size}
+use Rattle.members.proofs.Cards.{card-size}
 use Rattle.dunefork.specs.Codes.{codeFor, codedAs}
 
 minus : (r : ℕ) → 0 < r → codeFor r [] ≡ negℤ (pos r)

@@ -1,34 +1,10 @@
 // The C interface: one entry for each operation, with the answer as one number. include/dunefork.h says it for C.
 ghost use mathlib.Core.Path.{_≡_};
-ghost use lib.IntN.{pos, negℤ};
-ghost use Rattle.document.specs.Answer.{numberOf};
 ghost use Rattle.document.specs.Entry.{encodeOf, readOf, decodeOf};
 ghost use Rattle.document.specs.Card.{cardOf};
 ghost use Rattle.dunefork.specs.Codes.{codedAs};
-use document::types::Refusal;
+use codes::codes::refusal_code;
 use document::types::Reply;
-
-// Minus the number of a refusal.
-fn refusal_code(r: Refusal) -> i32
-    ensures { λ x. ⌜ x ≡ negℤ (pos (numberOf r)) ⌝ }
-{
-    match r {
-        Refusal::SheetLength => -1,
-        Refusal::CodeLength => -2,
-        Refusal::FieldDegree => -3,
-        Refusal::Header => -4,
-        Refusal::Representative => -5,
-        Refusal::NoMessage => -6,
-        Refusal::Range => -7,
-        Refusal::CommonFactor => -8,
-        Refusal::Period => -9,
-        Refusal::Term => -10,
-        Refusal::BufferLength => -11,
-        Refusal::SpareBit => -12,
-        Refusal::NoneNear => -13,
-        Refusal::NoCodeword => -14,
-    }
-}
 
 // The codeword of a message into out.
 #[no_mangle]

@@ -1,8 +1,7 @@
-// Factors of numbers and of masks by Euclid's algorithm, degrees, and the period of a mask.
+// Coprime numbers, and the degree of a mask.
 ghost use mathlib.Core.Path.{_≡_};
-ghost use Prim.Native.Nat.{_+_, _*_, _/_, _%_, _^_, _<_, _≤_};
-ghost use Rattle.field.specs.Mask.{_⊕_, coefficient, remainder as remainderOf};
-ghost use Rattle.masks.specs.Factor.{coprime as coprimeOf, degree as degreeOf, common as commonOf, Ratio};
+ghost use Prim.Native.Nat.{_/_, _%_, _<_};
+ghost use Rattle.masks.specs.Factor.{coprime as coprimeOf, degree as degreeOf};
 
 // x and y keep the divisors that a and b have in common: at the end y is 0, and x is the greatest.
 pub fn coprime(a: usize, b: usize) -> bool
@@ -26,46 +25,4 @@ pub fn degree(f: usize) -> usize
         return 0;
     }
     (31 - u32::leading_zeros(f as u32)) as usize
-}
-
-// A step of long division by b of degree s: x^i b is taken off where the coefficient of x^(s + i) is 1.
-fn strike(r: usize, b: usize, s: usize, i: usize) -> usize
-    requires { ⌜ (b < 512) × (s + i ≤ 8) ⌝ }
-    ensures { λ y. ⌜ y ≡ r ⊕ coefficient (s + i) r * (b * 2 ^ i) ⌝ }
-{
-    if (r >> (s + i)) % 2 == 1 {
-        r ^ (b << i)
-    } else {
-        r
-    }
-}
-
-// The remainder of a by b, from the highest step down.
-fn remainder(a: usize, b: usize) -> usize
-    requires { ⌜ (a < 512) × (2 ≤ b) × (b < 512) ⌝ }
-    ensures { λ r. ⌜ r ≡ remainderOf (degreeOf b) b a ⌝ }
-{
-    let s = degree(b);
-    let mut r = a;
-    let mut i = 9 - s;
-    while i > 0 {
-        i = i - 1;
-        r = strike(r, b, s, i);
-    }
-    r
-}
-
-// x and y keep the divisors that f and h have in common: at the end y is 0 and x divides both, or y is 1 and none does.
-pub fn common(f: usize, h: usize) -> bool
-    requires { ⌜ Ratio f h ⌝ }
-    ensures { λ r. ⌜ r ≡ commonOf f h ⌝ }
-{
-    let mut x = f;
-    let mut y = h;
-    while y > 1 {
-        let r = remainder(x, y);
-        x = y;
-        y = r;
-    }
-    y == 0
 }

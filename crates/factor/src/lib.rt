@@ -1,2 +1,2 @@
-// Coprime numbers; the degree of a mask, and whether two masks have a common factor.
+// Coprime numbers, and the degree of a mask.
 pub mod factor;

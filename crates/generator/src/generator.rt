@@ -7,7 +7,7 @@ ghost use Rattle.field.specs.Field.{α};
 ghost use Rattle.factors.specs.Coefficients.{Walking, Unit, Walked};
 ghost use Rattle.factors.specs.Building.{Rising, Lengths, Building, Joined};
 use arithmetic::product::order;
-use binary::bits::hand_over;
+use bits::bits::hand_over;
 use factors::coset::coset_factor;
 use quotient::power::power;
 
@@ -57,7 +57,7 @@ fn times_coset(
     ensures { λ e. ⌜ Joined n r d e (now (g .entry)) (now (w .entry)) (now (g .exit)) (now (w .exit)) ⌝ }
 {
     let m = factor(p, n, s, r, a);
-    binary::bits::multiply(w, p, m + 1, g, d + 1);
+    bits::bits::multiply(w, p, m + 1, g, d + 1);
     hand_over(w, g, n + 1);
     d + m
 }

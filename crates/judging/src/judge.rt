@@ -11,9 +11,9 @@ use cosets::cosets::marks;
 use cosets::cosets::wrong_representative;
 use document::types::Judged;
 use document::types::Refusal;
+use record::record::record_of;
 use sheet::sheet::byte;
 use weighing::types::Weighed;
-use weighing::weigh::record_of;
 use weighing::weigh::weigh;
 
 // Refusals 5 to 10 of a sheet that draws none of 1 to 4.

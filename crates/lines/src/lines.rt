@@ -3,8 +3,10 @@ ghost use Prim.Native.Nat.{_+_, _*_, _<_, _≤_};
 ghost use lib.ListN.{length};
 ghost use Rattle.word.specs.Place.{Binary};
 ghost use Rattle.text.specs.Wrote.{Wrote};
-ghost use Rattle.lines.specs.Text.{rows, member, memberIn, digitIn, zerosText, generatorText};
 ghost use Rattle.document.specs.Card.{codeText, certificateText, radiusText};
+ghost use Rattle.members.specs.Text.{zerosText, generatorText};
+use members::write::put_digits;
+use members::write::put_members;
 use text::piece::put;
 use text::piece::put_field;
 use text::piece::put_spaced;
@@ -20,32 +22,6 @@ pub fn code_line(out: &mut [u8], at: usize, n: usize, k: usize, s: usize) -> usi
     put(out, degree, 10)
 }
 
-// Place i, where it is marked.
-fn put_member(out: &mut [u8], at: usize, i: usize, mark: usize) -> usize
-    requires { ⌜ (at + 5 ≤ length (now out)) × (i < 10000) ⌝ }
-    ensures { λ r. ⌜ Wrote (member mark i) at (now (out .entry)) (now (out .exit)) r × (r ≤ at + 5) ⌝ }
-{
-    if mark == 0 {
-        return at;
-    }
-    put_spaced(out, at, i)
-}
-
-// The marked places below n, rising.
-fn put_members(out: &mut [u8], at: usize, n: usize, zeros: &[u8]) -> usize
-    requires { ⌜ (at + 5 * n ≤ length (now out)) × (n ≤ 127) × (n ≤ length (now zeros)) ⌝ }
-    ensures { λ r. ⌜ Wrote (rows (memberIn (now (zeros .entry))) n) at (now (out .entry)) (now (out .exit)) r × (r ≤ at + 5 * n) ⌝ }
-{
-    let mut end = at;
-    let mut i: usize = 0;
-    while i < n {
-        let mark = zeros[i] as usize;
-        end = put_member(out, end, i, mark);
-        i = i + 1;
-    }
-    end
-}
-
 pub fn zeros_line(out: &mut [u8], at: usize, n: usize, zeros: &[u8]) -> usize
     requires { ⌜ (at + 5 * n + 6 ≤ length (now out)) × (n ≤ 127) × (n ≤ length (now zeros)) ⌝ }
     ensures { λ r. ⌜ Wrote (zerosText (now (zeros .entry)) n) at (now (out .entry)) (now (out .exit)) r × (r ≤ at + 5 * n + 6) ⌝ }
@@ -53,21 +29,6 @@ pub fn zeros_line(out: &mut [u8], at: usize, n: usize, zeros: &[u8]) -> usize
     let word = put_text(out, at, b"zeros");
     let set = put_members(out, word, n, zeros);
     put(out, set, 10)
-}
-
-// The first coefficients of g, from x^0 up.
-fn put_digits(out: &mut [u8], at: usize, g: &[u8], count: usize) -> usize
-    requires { ⌜ (at + count ≤ length (now out)) × (count ≤ length (now g)) × Binary (now g) ⌝ }
-    ensures { λ r. ⌜ Wrote (rows (digitIn (now (g .entry))) count) at (now (out .entry)) (now (out .exit)) r × (r ≤ at + count) ⌝ }
-{
-    let mut end = at;
-    let mut j: usize = 0;
-    while j < count {
-        let digit = g[j] as usize;
-        end = put(out, end, 48 + digit);
-        j = j + 1;
-    }
-    end
 }
 
 // m is the generator's degree.

@@ -4,6 +4,7 @@
 --   Finding, finding-start, finding-more, finding-all, finding-many      the first i places
 --   Below, below-start, below-four, below-all, below-many      those of them that are below n
 --   noted-le, noted-below-le      a place is counted at most once
+--   noted-below-length      and the list stays as long as it is
 use mathlib.Core.Path.{_≡_, refl, sym, ap, _∙_, subst}
 use mathlib.Core.Bool.{Bool, true, false}
 use mathlib.Core.List.{List}
@@ -131,6 +132,14 @@ noted-below-le {n} {i = i} m =
     elim (decLt i n) [
       | yes h ↦ noted-le (m .inside h)
       | no h ↦ (let o = m .outside (omega arith) in omega (arith, o .0))
+    ]
+
+pub noted-below-length : {n : ℕ} {hit : Bool} {c i r : ℕ} {list list′ : List ℕ} → NotedBelow n hit c i list list′ r
+    → length list′ ≡ length list
+noted-below-length {n} {i = i} m =
+    elim (decLt i n) [
+      | yes h ↦ ap length (m .inside h .made) ∙ simp length-set
+      | no h ↦ ap length (m .outside (omega arith) .1)
     ]
 
 pub below-all : {n : ℕ} {test : ℕ → Bool} {t i c : ℕ} {list : List ℕ} → n ≤ i → c ≤ t → Below n test i c list

@@ -6,4 +6,5 @@ pub mod Lanes
 pub mod Entries
 pub mod Walking
 pub mod Finding
+pub mod Neighbours
 pub mod Searching

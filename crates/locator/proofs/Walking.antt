@@ -4,6 +4,7 @@
 --   word-lt           a word of sums is below 2^64
 --   words-null        two words are 0 exactly where all residues are
 --   walking-end       so they tell at each place whether f divides the locator there
+--   Loop, loop-start, loop-more, loop-end      the same with what the loop keeps
 use mathlib.Core.Path.{_≡_, refl, sym, ap, ap₂, _∙_, subst}
 use mathlib.Core.Logic.{inl, inr, _↔_}
 use mathlib.Core.Bool.{Bool, true, false, _&&_}
@@ -13,7 +14,7 @@ use native.Mathlib.Nat.{div-one, mod-add-mod, mod-eq-of-lt, mod-lt, mul-comm, mu
 use native.Mathlib.Numerals.{add-one}
 use native.Mathlib.Omega.{arith}
 use lib.Dec.{eqb}
-use lib.ListN.{length, getD, set}
+use lib.ListN.{length, getD, set, length-set}
 use borrow.Author.Tests.{eqb-true, eq-eqb}
 use Rattle.algebra.proofs.Power.{pow}
 use Rattle.algebra.proofs.Coprime.{Divides}
@@ -49,7 +50,7 @@ pub record Walking (s back f u k : ℕ) (lam lg st lo hi : List ℕ) (c at y : �
   pub low : Word s back f u k lam lg st lo 0 (getD lam 0 0) c
   pub high : Word s back f u k lam lg st hi 4 0 c
 
-pub walking-start : {s back f u len y : ℕ} {lam g lg st lo hi : List ℕ} → Walkable s back f u len lam g lg st lo hi
+walking-start : {s back f u len y : ℕ} {lam g lg st lo hi : List ℕ} → Walkable s back f u len lam g lg st lo hi
     → y ≡ remainder u f (1 * 2) → Walking s back f u 1 lam lg st lo hi 0 back y
 walking-start {s} {back} {f} {u} {len} {y} {lam} p e = record {
   fewer = omega arith;
@@ -65,7 +66,7 @@ walking-start {s} {back} {f} {u} {len} {y} {lam} p e = record {
       ∙ sym (ap (λ (x : ℕ). x * getD lam 0 0) (coefficient-above {n = 1} (omega arith) (4 + j) (omega arith)) ∙ zero-mul _));
 }
 
-pub walking-more : {s back f u len k c at y r a b end at′ y′ : ℕ} {lam g lg₀ st₀ lo₀ hi₀ lg st lo hi : List ℕ}
+walking-more : {s back f u len k c at y r a b end at′ y′ : ℕ} {lam g lg₀ st₀ lo₀ hi₀ lg st lo hi : List ℕ}
     → Walkable s back f u len lam g lg₀ st₀ lo₀ hi₀ → k < len → length lg ≡ length lg₀ → length st ≡ length st₀
     → length lo ≡ length lo₀ → length hi ≡ length hi₀ → (getD lam k 0 ≡ 0 → r ≡ 0) → (0 < getD lam k 0 → r ≡ 1) → r ≤ 1
     → a ≡ lanes y → b ≡ lanes (y / 16) → end ≡ 2 ^ s - 1 → at′ ≡ (at + back) % end → y′ ≡ remainder u f (y * 2)
@@ -179,7 +180,7 @@ module _ {s back f u len k c at y : ℕ} {lam g lg₀ st₀ lo₀ hi₀ lg st lo
       let z = divides-residues d (p .modulus) k (i * back) lam (subst (λ (x : ℕ). Short x lam) (sym e) (p .locator .short)) in
       (λ t. z .1 (b .0 (a .0 t)), λ t. a .1 (b .1 (z .0 t)))
 
-  pub walking-end : k ≡ len → length lo ≡ length lo₀ → length hi ≡ length hi₀ → Walked s back f u lam lg st lo hi c
+  walking-end : k ≡ len → length lo ≡ length lo₀ → length hi ≡ length hi₀ → Walked s back f u lam lg st lo hi c
   walking-end e eo eh = record {
     listed = w .listed;
     laned = record {
@@ -194,3 +195,49 @@ module _ {s back f u len k c at y : ℕ} {lam g lg₀ st₀ lo₀ hi₀ lg st lo
     };
     means = means e;
   }
+
+-- ---- the loop: the slices as they were given and as they are
+pub record Loop (s back f u len end : ℕ) (lam g lg₀ st₀ lo₀ hi₀ lg st lo hi : List ℕ) (c at y k : ℕ) : Type 0 where
+  pub given : Walkable s back f u len lam g lg₀ st₀ lo₀ hi₀
+  pub end-is : end ≡ 2 ^ s - 1
+  pub k-le : k ≤ len
+  pub lg-kept : length lg ≡ length lg₀
+  pub st-kept : length st ≡ length st₀
+  pub lo-kept : length lo ≡ length lo₀
+  pub hi-kept : length hi ≡ length hi₀
+  pub walking : Walking s back f u k lam lg st lo hi c at y
+
+pub loop-start : {s back f u len end y : ℕ} {lam g lg st lo hi : List ℕ} → Walkable s back f u len lam g lg st lo hi
+    → end ≡ 2 ^ s - 1 → y ≡ remainder u f (1 * 2) → Loop s back f u len end lam g lg st lo hi lg st lo hi 0 back y 1
+loop-start p o e = record {
+  given = p;
+  end-is = o;
+  k-le = omega (arith, p .locator .pos);
+  lg-kept = refl;
+  st-kept = refl;
+  lo-kept = refl;
+  hi-kept = refl;
+  walking = walking-start p e;
+}
+
+pub loop-more : {s back f u len end c at y k r a b at′ y′ : ℕ} {lam g lg₀ st₀ lo₀ hi₀ lg st lo hi : List ℕ} → k < len
+    → (getD lam k 0 ≡ 0 → r ≡ 0) × (0 < getD lam k 0 → r ≡ 1) × (r ≤ 1) → a ≡ lanes y → b ≡ lanes (y / 16)
+    → at′ ≡ (at + back) % end → y′ ≡ remainder u f (y * 2)
+    → Loop s back f u len end lam g lg₀ st₀ lo₀ hi₀ lg st lo hi c at y k
+    → Loop s back f u len end lam g lg₀ st₀ lo₀ hi₀ (set lg c (getD g (getD lam k 0) 0)) (set st c at) (set lo c a)
+    (set hi c b) (c + r) at′ y′ (k + 1)
+loop-more h r a-is b-is at-next y-next t = record {
+  given = t .given;
+  end-is = t .end-is;
+  k-le = omega arith;
+  lg-kept = simp length-set (t .lg-kept);
+  st-kept = simp length-set (t .st-kept);
+  lo-kept = simp length-set (t .lo-kept);
+  hi-kept = simp length-set (t .hi-kept);
+  walking = walking-more (t .given) h (t .lg-kept) (t .st-kept) (t .lo-kept) (t .hi-kept) (r .0) (r .1) (r .2) a-is b-is
+      (t .end-is) at-next y-next (t .walking);
+}
+
+pub loop-end : {s back f u len end c at y k : ℕ} {lam g lg₀ st₀ lo₀ hi₀ lg st lo hi : List ℕ} → len ≤ k
+    → Loop s back f u len end lam g lg₀ st₀ lo₀ hi₀ lg st lo hi c at y k → Walked s back f u lam lg st lo hi c
+loop-end h t = walking-end (t .given) (t .walking) (omega (arith, t .k-le)) (t .lo-kept) (t .hi-kept)

@@ -37,7 +37,7 @@ use Rattle.binary.specs.Bits.{Holds}
 use Rattle.evaluation.proofs.Listing.{listed-mask}
 use Rattle.word.specs.Place.{Spread}
 use Rattle.word.proofs.Places.{word-weights, mask-lt, mask-coefficient, mask-above, spare-none, bytes-same, for-le}
-use Rattle.repair.specs.Repair.{Places as PlacesOf, Repairable, Repaired}
+use Rattle.flips.specs.Repair.{Places as PlacesOf, Repairable, Repaired}
 use Rattle.codeword.specs.Room.{Usable, Recorded}
 use Rattle.codeword.proofs.Words.{length-of, part-is, generator-is, checks-is, word-holds, zeros}
 use Rattle.decoding.specs.declared.types.Correction.{Correction}

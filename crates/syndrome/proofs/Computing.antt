@@ -4,6 +4,8 @@
 --   Computing, computing-start, computing-more, computing-end      the first k representatives
 --   Testing, testing-start, testing-more, testing-end, testing-wrong      a codeword is 0 at each representative
 --   Quiet, quiet-zero, quiet-other, quiet-start, quiet-more, quiet-end      whether the values so far are 0
+--   Values, values-start, values-more, values-end      all that the loop keeps
+--   values-summable, values-by, values-room      what a turn needs
 use mathlib.Core.Path.{_≡_, refl, sym, ap, ap₂, _∙_, subst}
 use mathlib.Core.Logic.{_≢_}
 use mathlib.Core.Bool.{Bool, true, false, _&&_}
@@ -12,7 +14,7 @@ use Prim.Native.Nat.{ℕ, _+_, _-_, _*_, _/_, _^_, _≤_, _<_}
 use native.Mathlib.Decide.{ℕ-discrete}
 use native.Mathlib.Omega.{arith}
 use lib.Dec.{eqb}
-use lib.ListN.{length, getD, set}
+use lib.ListN.{length, getD, set, length-set}
 use lib.Pow.{pow-mono}
 use lib.Seq.{getD-set-same, getD-set-other}
 use borrow.Author.Tests.{eq-eqb, ne-eqb}
@@ -172,3 +174,73 @@ quiet-end {n} {w = w} {reps} {quiet = quiet} p h t = go quiet refl
     go : (b : Bool) → quiet ≡ b → Tested n w reps quiet
     go true q = subst (Tested n w reps) (sym q) (testing-end p h (t .yes q))
     go false q = subst (Tested n w reps) (sym q) (t .no q)
+
+-- ---- all that the loop over the representatives keeps; the columns were given as `room`
+pub record Values (n s b q count : ℕ) (w reps e g col val₀ val : List ℕ) (clean : Bool) (k : ℕ) : Type 0 where
+  pub room : List ℕ
+  pub given : Computable n s w reps e g room val₀
+  pub b-is : b ≡ (n + 7) / 8 * 2
+  pub b-le : b ≤ length col
+  pub columned : Columned b w col
+  pub q-is : q ≡ (2 ^ s - 1) / n
+  pub count-is : count ≡ length reps
+  pub k-le : k ≤ count
+  pub kept : length val ≡ length val₀
+  pub computing : Computing n s k w reps val
+  pub quiet : Quiet n s k w reps clean
+
+pub values-start : {n s o : ℕ} {w reps e g room col val : List ℕ} → Computable n s w reps e g room val
+    → length col ≡ length room → Columned ((n + 7) / 8 * 2) w col → o ≡ 2 ^ s - 1
+    → Values n s ((n + 7) / 8 * 2) (o / n) (length reps) w reps e g col val val true 0
+values-start {n} {room = room} p l c o-is = record {
+  room = room;
+  given = p;
+  b-is = refl;
+  b-le = omega (arith, p .col-long);
+  columned = c;
+  q-is = ap (λ (x : ℕ). x / n) o-is;
+  count-is = refl;
+  k-le = omega arith;
+  kept = refl;
+  computing = computing-start;
+  quiet = quiet-start;
+}
+
+module _ {n s b q count k : ℕ} {w reps e g col val₀ val : List ℕ} {clean : Bool} (h : k < count)
+    (t : Values n s b q count w reps e g col val₀ val clean k) where
+  here : k < length reps
+  here = omega (arith, t .count-is)
+
+  pub values-summable : Summable b s (getD reps k 0 * q) col e
+  values-summable = summable (t .given) (t .b-is) (t .q-is) {k = k} here refl (t .b-le) (t .columned)
+
+  pub values-by : getD reps k 0 * q < 4096
+  values-by = omega (arith, by-lt (t .given .setting) (t .q-is) {k = k} here refl, Degree-bounds (t .given .tables .degree) .1)
+
+  pub values-room : (getD reps k 0 < 65535) × (getD reps k 0 < length val)
+  values-room =
+      let l = t .given .setting .below k here in
+      (omega (arith, t .given .setting .odd .most), omega (arith, t .given .val-long, t .kept))
+
+  pub values-more : {v : ℕ} {clean′ : Bool} → Valued b s (getD reps k 0 * q) col v → clean′ ≡ clean && eqb v 0
+      → Values n s b q count w reps e g col val₀ (set val (getD reps k 0) v) clean′ (k + 1)
+  values-more y o =
+      let f = value-here (t .given) (t .b-is) (t .q-is) _ (t .columned) y in
+      record {
+        room = t .room;
+        given = t .given;
+        b-is = t .b-is;
+        b-le = t .b-le;
+        columned = t .columned;
+        q-is = t .q-is;
+        count-is = t .count-is;
+        k-le = omega arith;
+        kept = simp length-set (t .kept);
+        computing = computing-more (t .computing) refl (values-room .1) f;
+        quiet = subst (Quiet n s (k + 1) w reps) (sym o) (quiet-more (t .given .setting) here refl f (t .quiet));
+      }
+
+pub values-end : {n s b q count k : ℕ} {w reps e g col val₀ val : List ℕ} {clean : Bool} → count ≤ k
+    → Values n s b q count w reps e g col val₀ val clean k → Computed n s w reps val × Tested n w reps clean
+values-end h t =
+    (computing-end (omega (arith, t .count-is)) (t .computing), quiet-end (t .given .setting) (omega (arith, t .count-is)) (t .quiet))

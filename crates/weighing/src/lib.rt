@@ -1,3 +1,3 @@
-// The working certificate among those of a sheet, and the record.
+// The working certificate among those of a sheet.
 pub mod types;
 pub mod weigh;

@@ -1,15 +1,11 @@
-// Certificates weighed: the working certificate, and the record made of it.
+// Certificates weighed: the working certificate.
 ghost use mathlib.Core.Path.{_≡_};
 ghost use Prim.Native.Nat.{_+_, _-_, _/_, _<_, _≤_};
-ghost use Rattle.document.specs.Answer.{recordAs};
-ghost use Rattle.document.specs.Judge.{recordOf};
-ghost use Rattle.weighing.specs.Weigh.{Weighable, Recordable, bestOf, weighedAs, weighOf};
+ghost use Rattle.weighing.specs.Weigh.{Weighable, bestOf, weighedAs, weighOf};
 use crate::types::Best;
 use crate::types::Weighed;
 use certificate::types::Checked;
 use checking::check::check;
-use document::types::Record;
-use sheet::sheet::number;
 
 // The better of the best so far and certificate i with distance e: the later one only where its t is larger. A distance of 0
 // stands for none so far. ((d + 1) / 2 is t + 1.)
@@ -43,23 +39,4 @@ pub fn weigh(sheet: &[u8], n: usize, reps: usize, count: usize, zeros: &[u8]) ->
         i = i + 1;
     }
     Weighed::Working(best)
-}
-
-// The record of an accepted sheet: size is that of D.
-pub fn record_of(sheet: &[u8], n: usize, s: usize, reps: usize, size: usize, best: Best) -> Record
-    requires { ⌜ Recordable (now sheet) n s reps size best ⌝ }
-    ensures { λ r. ⌜ recordAs r ≡ recordOf (now (sheet .entry)) ⌝ }
-{
-    let index = best.index;
-    let d = best.d;
-    let terms = number(sheet, 10 + reps + 8 * index + 6);
-    Record {
-        n,
-        k: n - size,
-        s,
-        working: index,
-        d,
-        t: (d - 1) / 2,
-        terms,
-    }
 }

@@ -5,7 +5,7 @@ ghost use lib.ListN.{length};
 ghost use Rattle.document.specs.Layout.{wordWeight, bytesFor, bytesOf};
 ghost use Rattle.document.specs.Entry.{encodedWord};
 ghost use Rattle.codeword.specs.Room.{Usable, Fresh, Encodable, Encoded, Readable, MessageRead};
-use binary::bits::divide;
+use bits::bits::divide;
 use codeword::test::sheet_generator;
 use spreading::spread::pack_message;
 use spreading::spread::pack_word;

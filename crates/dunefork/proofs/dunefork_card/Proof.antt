@@ -7,7 +7,7 @@ use Rattle.dunefork.proofs.dunefork_card.Tie as tie
 use Rattle.dunefork.proofs.dunefork_card.Reads as reads
 use Rattle.dunefork.proofs.dunefork_card.Lts as lts
 use Rattle.code.proofs.card.card.Reads as card-reads
-use Rattle.dunefork.proofs.refusal_code.Reads as refusal-code-reads
+use Rattle.codes.proofs.codes.refusal_code.Reads as refusal-code-reads
 
 card-requires : tie.Need-card-requires
 card-requires c κs = search needs
@@ -25,13 +25,13 @@ refusal-code-requires : tie.Need-refusal-code-requires
 refusal-code-requires c κs = search needs
 
 same-length : tie.Need-same-length
-same-length c = search needs
+same-length c = c .before .before .before .before .before .card .kept .1 .0
 
 returns : tie.Need-returns
 returns c = let e = replied (c .before .reply .given .1) (c .before .before .before .before .before .card .ensures) in counted-done (card-fits (c .before .before .before .before .before .before .before .before .before .args .sheet .now) _ (omega (arith, c .before .before .before .before .before .card .kept .1 .0)) e) e
 
 same-length-2 : tie.Need-same-length-2
-same-length-2 c = search needs
+same-length-2 c = c .before .before .before .before .before .before .card .kept .1 .0
 
 returns-2 : tie.Need-returns-2
 returns-2 c = coded-refused (c .before .before .reply2 .given .0 .0) (c .refusal-code .ensures) (replied (c .before .before .reply2 .given .1) (c .before .before .before .before .before .before .card .ensures))

@@ -7,7 +7,7 @@ use Rattle.dunefork.proofs.dunefork_encode.Tie as tie
 use Rattle.dunefork.proofs.dunefork_encode.Reads as reads
 use Rattle.dunefork.proofs.dunefork_encode.Lts as lts
 use Rattle.code.proofs.encode.encode.Reads as encode-reads
-use Rattle.dunefork.proofs.refusal_code.Reads as refusal-code-reads
+use Rattle.codes.proofs.codes.refusal_code.Reads as refusal-code-reads
 
 encode-requires : tie.Need-encode-requires
 encode-requires c κs = search needs
@@ -22,13 +22,13 @@ refusal-code-requires : tie.Need-refusal-code-requires
 refusal-code-requires c κs = search needs
 
 same-length : tie.Need-same-length
-same-length c = search needs
+same-length c = c .before .before .before .before .encode .kept .1 .1 .0
 
 returns : tie.Need-returns
 returns c = encode-done _ _ _ (replied (c .enum-told .given .1) (c .before .before .before .before .encode .ensures))
 
 same-length-2 : tie.Need-same-length-2
-same-length-2 c = search needs
+same-length-2 c = c .before .before .before .before .before .before .encode .kept .1 .1 .0
 
 returns-2 : tie.Need-returns-2
 returns-2 c =

@@ -1,7 +1,7 @@
 -- `cards::card::card_accepted` meets its contract: marks, generator and record, written.
 use native.Mathlib.Omega.{arith}
 use Rattle.codeword.proofs.Words.{fresh}
-use Rattle.lines.proofs.Cards.{card-accepted}
+use Rattle.members.proofs.Cards.{card-accepted}
 use Rattle.acceptance.proofs.Cards.{markable, listable}
 use borrow.Author.Needs.{needs}
 use Rattle.cards.proofs.card.card_accepted.Statement.{statement}
@@ -38,7 +38,7 @@ write-accepted-requires : tie.Need-write-accepted-requires
 write-accepted-requires c κs = let r = c .before .before .before .before .before .before .before .before .before .before .before .before .before .before .before .pre in (listable (r .0) (r .1) (c .before .before .before .before .before .before .before .before .before .before .before .mark-set .ensures) (c .before .before .before .before .before .before .sheet-generator .ensures) (omega (arith, r .0 .n-is, r .0 .head .most, c .before .before .before .before .before .before .sheet-generator .kept .1 .1 .1 .1 .0)), omega (arith, r .2))
 
 same-length : tie.Need-same-length
-same-length c = search needs
+same-length c = c .before .before .write-accepted .kept .1 .1 .1 .1 .1 .1 .1 .1 .0
 
 returns : tie.Need-returns
 returns c = let r = c .before .before .before .before .before .before .before .before .before .before .before .before .before .before .before .before .before .before .pre in card-accepted _ (r .2) (r .0 .quiet) (c .before .before .write-accepted .ensures)

@@ -12,7 +12,7 @@ wrong-representative-requires : tie.Need-wrong-representative-requires
 wrong-representative-requires c κs = let r = c .before .before .before .before .pre in (r .head, r .n-is, r .s-is, count-of _ (c .before .byte .ensures .0), r .none)
 
 same-length : tie.Need-same-length
-same-length c = search needs
+same-length c = c .before .before .wrong-representative .kept .1 .1 .1 .1 .0
 
 returns : tie.Need-returns
 returns c = marked (c .before .before .before .before .before .before .before .pre) (c .before .before .wrong-representative .ensures)

@@ -2,7 +2,7 @@
 use native.Mathlib.Omega.{arith}
 use mathlib.Core.Path.{sym, ap, _∙_}
 use Rattle.document.specs.Answer.{judgedAs}
-use Rattle.lines.proofs.Cards.{card-size, card-refused}
+use Rattle.members.proofs.Cards.{card-size, card-refused}
 use Rattle.weighing.proofs.Weighing.{number-pos}
 use Rattle.acceptance.proofs.Accepted.{usable}
 use Rattle.acceptance.proofs.Cards.{number-le, first-is, recorded}
@@ -32,14 +32,14 @@ card-accepted-requires : tie.Need-card-accepted-requires
 card-accepted-requires c κs = let e = sym (ap judgedAs (c .before .before .judged2 .given .1)) ∙ c .before .before .before .before .judge .ensures in (usable _ e, recorded _ e, c .before .before .before .before .before .if1 .left)
 
 same-length : tie.Need-same-length
-same-length c = search needs
+same-length c = c .before .before .write-refused .kept .1 .0
 
 returns-2 : tie.Need-returns-2
 returns-2 c = card-refused _ (c .before .before .before .before .before .before .before .before .before .if1 .left) _ (omega (arith, c .before .before .before .before .refusal-number .ensures, number-pos (c .before .before .before .before .before .before .judged .given .0 .0)))
     (first-is _ (sym (ap judgedAs (c .before .before .before .before .before .before .judged .given .1)) ∙ c .before .before .before .before .before .before .before .before .judge .ensures) ∙ sym (c .before .before .before .before .refusal-number .ensures)) (c .before .before .write-refused .ensures)
 
 same-length-2 : tie.Need-same-length-2
-same-length-2 c = search needs
+same-length-2 c = c .before .before .card-accepted .kept .1 .1 .1 .1 .1 .1 .0
 
 returns-3 : tie.Need-returns-3
 returns-3 c = search needs

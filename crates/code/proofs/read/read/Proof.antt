@@ -24,7 +24,7 @@ returns : tie.Need-returns
 returns c = read-sheet _ _ _ (c .before .judged .given .0 .0) (sym (ap judgedAs (c .before .judged .given .1)) ∙ c .before .before .before .judge .ensures)
 
 same-length : tie.Need-same-length
-same-length c = search needs
+same-length c = c .before .before .read-accepted .kept .1 .1 .1 .1 .1 .0
 
 returns-2 : tie.Need-returns-2
 returns-2 c = search needs

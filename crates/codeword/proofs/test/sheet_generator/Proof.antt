@@ -25,13 +25,13 @@ generator-requires : tie.Need-generator-requires
 generator-requires c κs = let r = c .before .before .before .before .before .before .before .before .before .pre in let f = r .1 in (lengths-of (r .0), part-rising (r .0) (c .before .before .before .before .byte .ensures .0), f .p-long, f .g-long, f .w-long, building-start (f .one) (f .zero))
 
 same-length : tie.Need-same-length
-same-length c = search needs
+same-length c = c .before .before .before .before .before .before .generator .kept .1 .1 .1 .0
 
 same-length-2 : tie.Need-same-length-2
-same-length-2 c = search needs
+same-length-2 c = c .before .before .before .before .before .before .generator .kept .1 .1 .1 .1 .0
 
 same-length-3 : tie.Need-same-length-3
-same-length-3 c = search needs
+same-length-3 c = c .before .before .before .before .before .before .generator .kept .1 .1 .1 .1 .1 .0
 
 returns : tie.Need-returns
 returns c = generated (c .before .before .before .before .before .before .before .before .before .before .before .before .before .before .before .before .pre .0) (c .before .before .before .before .before .before .before .before .before .before .before .byte .ensures .0) (c .before .before .before .before .before .before .generator .ensures)

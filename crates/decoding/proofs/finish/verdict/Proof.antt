@@ -1,5 +1,3 @@
-use borrow.Author.Needs.{needs}
-use native.Mathlib.Omega.{arith}
 -- `decoding::finish::verdict` meets its contract: one law for each exit.
 use Rattle.decoding.proofs.Correcting.{passed-many, passed-yes, passed-no}
 use Rattle.decoding.proofs.finish.verdict.Statement.{statement}

@@ -41,7 +41,7 @@ write-codeword-requires : tie.Need-write-codeword-requires
 write-codeword-requires c κs = let u = c .before .before .before .before .before .before .before .before .before .before .before .before .before .pre in (u, record { message-long = c .before .before .before .before .before .before .before .before .if1 .left ∙ c .before .before .before .before .before .before .before .before .before .bytes-for .ensures; out-long = c .before .before .before .before .before .before .if2 .left ∙ c .before .before .before .before .before .before .before .bytes-for2 .ensures }, fresh (omega (arith, u .n-is, u .head .most)))
 
 same-length : tie.Need-same-length
-same-length c = search needs
+same-length c = c .before .before .before .before .before .write-codeword .kept .1 .1 .1 .1 .1 .0
 
 returns-4 : tie.Need-returns-4
 returns-4 c = encode-done (c .before .before .before .before .before .before .before .before .before .before .before .before .before .before .before .before .before .before .before .pre) _ _ (c .before .before .before .before .before .before .before .before .before .before .before .before .before .before .if1 .left ∙ c .before .before .before .before .before .before .before .before .before .before .before .before .before .before .before .bytes-for .ensures) (c .before .before .before .before .before .before .before .before .before .before .before .before .if2 .left ∙ c .before .before .before .before .before .before .before .before .before .before .before .before .before .bytes-for2 .ensures) (sym (c .before .before .before .before .before .before .before .before .before .before .before .spare-message .ensures) ∙ c .before .before .before .before .before .before .before .before .before .before .if3 .left) (c .before .before .before .before .before .write-codeword .ensures)

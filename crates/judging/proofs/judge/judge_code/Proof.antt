@@ -32,7 +32,7 @@ wrong-representative-requires c κs =
     )
 
 same-length : tie.Need-same-length
-same-length c = search needs
+same-length c = c .before .before .before .wrong-representative .kept .1 .1 .1 .1 .0
 
 returns : tie.Need-returns
 returns c =
@@ -48,7 +48,7 @@ marks-requires c κs =
     )
 
 same-length-2 : tie.Need-same-length-2
-same-length-2 c = search needs
+same-length-2 c = c .before .before .before .before .before .before .wrong-representative .kept .1 .1 .1 .1 .0
 
 returns-2 : tie.Need-returns-2
 returns-2 c =
@@ -90,7 +90,7 @@ record-of-requires c κs =
     recordable j e (c .before .before .before .before .before .before .before .before .before .before .before .before .before .before .order-of-two .ensures) (headed-reps j (c .before .before .before .before .before .before .before .before .before .before .before .before .before .before .before .byte2 .ensures .0)) (marks-at e (f .marks (c .before .before .before .before .before .before .before .before .before .if1 .left))) (c .before .before .before .before .before .before .before .marks .ensures) (sym (ap weighedAs (c .before .weighed2 .given .1)) ∙ c .before .before .before .weigh .ensures)
 
 same-length-3 : tie.Need-same-length-3
-same-length-3 c = search needs
+same-length-3 c = c .before .before .before .before .before .before .before .before .before .before .before .before .wrong-representative .kept .1 .1 .1 .1 .0
 
 returns-3 : tie.Need-returns-3
 returns-3 c =
@@ -102,7 +102,7 @@ returns-3 c =
     (sym (ap weighedAs (c .before .weighed .given .1)) ∙ c .before .before .before .weigh .ensures)
 
 same-length-4 : tie.Need-same-length-4
-same-length-4 c = search needs
+same-length-4 c = c .before .before .before .before .before .before .before .before .before .before .before .before .before .wrong-representative .kept .1 .1 .1 .1 .0
 
 returns-4 : tie.Need-returns-4
 returns-4 c =

@@ -40,10 +40,10 @@ length-of-requires c κs =
     (omega (arith, c .before .before .before .before .before .before .before .add-scaled .kept .1 .0, p .0 .a-long), cancelled (p .0) (p .1) (p .2) (c .before .before .before .before .before .before .before .before .before .log .ensures) (c .before .before .before .before .before .before .before .add-scaled .ensures))
 
 same-length : tie.Need-same-length
-same-length c = search needs
+same-length c = c .before .before .before .before .before .before .before .before .add-scaled .kept .1 .0
 
 same-length-2 : tie.Need-same-length-2
-same-length-2 c = search needs
+same-length-2 c = c .before .before .before .before .add-scaled2 .kept .1 .0
 
 returns : tie.Need-returns
 returns c =

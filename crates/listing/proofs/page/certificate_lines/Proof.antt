@@ -5,10 +5,10 @@ use Prim.Native.Nat.{_+_, _-_, _*_, _≤_}
 use lib.ListN.{length}
 use Rattle.document.specs.Card.{certificateLine}
 use Rattle.text.specs.Wrote.{Wrote}
-use Rattle.lines.specs.Text.{rows}
-use Rattle.lines.specs.Accepted.{Sound}
-use Rattle.lines.proofs.Certificates.{checkable-of}
-use Rattle.lines.proofs.Pieces.{rows-start, rows-more, rows-end}
+use Rattle.members.specs.Text.{rows}
+use Rattle.members.specs.Accepted.{Sound}
+use Rattle.members.proofs.Certificates.{checkable-of}
+use Rattle.members.proofs.Pieces.{rows-start, rows-more, rows-end}
 use Rattle.listing.proofs.page.certificate_lines.Statement.{statement}
 use Rattle.listing.proofs.page.certificate_lines.Tie as tie
 

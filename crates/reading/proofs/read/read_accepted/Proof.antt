@@ -53,7 +53,7 @@ write-message-requires : tie.Need-write-message-requires
 write-message-requires c κs = let u = c .before .before .before .before .before .before .before .before .before .before .before .before .before .before .before .before .before .before .before .pre in record { word-long = split-long _ _ (u .k-le) (c .before .before .before .before .before .before .before .before .before .before .before .before .before .before .if1 .left ∙ c .before .before .before .before .before .before .before .before .before .before .before .before .before .before .before .bytes-for .ensures); out-long = c .before .before .before .before .before .before .before .before .before .before .before .before .if2 .left ∙ c .before .before .before .before .before .before .before .before .before .before .before .before .before .bytes-for2 .ensures; most = omega (arith, u .n-is, u .k-le, u .head .most); w-long = omega (arith, u .n-is, u .k-le, u .head .most, c .before .before .before .before .before .before .no-codeword .kept .1 .1 .1 .1 .1 .1 .1 .0); clear = c .before .before .before .before .before .before .no-codeword .ensures .clear (c .before .before .if4 .left) }
 
 same-length : tie.Need-same-length
-same-length c = search needs
+same-length c = c .before .before .before .write-message .kept .1 .1 .1 .1 .0
 
 returns-5 : tie.Need-returns-5
 returns-5 c = read-done (c .before .before .before .before .before .before .before .before .before .before .before .before .before .before .before .before .before .before .before .before .before .before .before .pre) _ _ (c .before .before .before .before .before .before .before .before .before .before .before .before .before .before .before .before .before .before .if1 .left ∙ c .before .before .before .before .before .before .before .before .before .before .before .before .before .before .before .before .before .before .before .bytes-for .ensures) (c .before .before .before .before .before .before .before .before .before .before .before .before .before .before .before .before .if2 .left ∙ c .before .before .before .before .before .before .before .before .before .before .before .before .before .before .before .before .before .bytes-for2 .ensures) (sym (c .before .before .before .before .before .before .before .before .before .before .before .before .before .before .before .spare-word .ensures) ∙ c .before .before .before .before .before .before .before .before .before .before .before .before .before .before .if3 .left) (c .before .before .before .before .before .before .before .before .before .before .no-codeword .ensures) (c .before .before .before .before .before .before .if4 .left) (c .before .before .before .write-message .ensures)

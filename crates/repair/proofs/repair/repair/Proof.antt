@@ -1,5 +1,5 @@
 -- `repair::repair::repair` meets its contract: the copy is the word, so what is changed in it is changed in the word.
-use Rattle.repair.proofs.Repairing.{repairable-copied, repaired-copied}
+use Rattle.flips.proofs.Repairing.{repairable-copied, repaired-copied}
 use borrow.Author.Needs.{needs}
 use Rattle.repair.proofs.repair.repair.Statement.{statement}
 use Rattle.repair.proofs.repair.repair.Tie as tie

@@ -1,67 +1,52 @@
-use native.Mathlib.Omega.{arith}
 -- `room::room::by_small_tables` meets its contract: tables for s up to 8.
+use mathlib.Core.Path.{refl, sym}
 use Rattle.decoding.proofs.Arrays.{degree-of, small-tables}
-use borrow.Author.Needs.{needs}
 use Rattle.room.proofs.room.by_small_tables.Statement.{statement}
 use Rattle.room.proofs.room.by_small_tables.Tie as tie
 use Rattle.room.proofs.room.by_small_tables.Reads as reads
 use Rattle.room.proofs.room.by_small_tables.Lts as lts
-use Rattle.correction.proofs.correct.correct.Reads as correct-reads
+use Rattle.room.proofs.room.in_long_room.Reads as in-long-room-reads
+use Rattle.room.proofs.room.in_short_room.Reads as in-short-room-reads
 use Rattle.tables.proofs.fill.fill.Reads as fill-reads
 
 slice-aggregate-fill : tie.Need-slice-aggregate-fill
-slice-aggregate-fill c = search needs
+slice-aggregate-fill c = refl
 
 slice-aggregate-fill-2 : tie.Need-slice-aggregate-fill-2
-slice-aggregate-fill-2 c = search needs
+slice-aggregate-fill-2 c = refl
 
 fill-requires : tie.Need-fill-requires
-fill-requires c κs = let p = c .before .before .before .before .before .before .before .before .before .before .before .before .before .before .before .pre in small-tables (degree-of (p .0)) (p .3)
+fill-requires c κs = let p = c .before .before .before .before .before .pre in small-tables (degree-of (p .0)) (p .4)
 
-slice-aggregate-correct : tie.Need-slice-aggregate-correct
-slice-aggregate-correct c = search needs
+slice-aggregate-in-long-room : tie.Need-slice-aggregate-in-long-room
+slice-aggregate-in-long-room c = sym (c .before .before .before .before .fill .kept .1 .0)
 
-slice-aggregate-correct-2 : tie.Need-slice-aggregate-correct-2
-slice-aggregate-correct-2 c = search needs
+slice-aggregate-in-long-room-2 : tie.Need-slice-aggregate-in-long-room-2
+slice-aggregate-in-long-room-2 c = sym (c .before .before .before .before .before .fill .kept .1 .1 .0)
 
-correct-requires : tie.Need-correct-requires
-correct-requires c κs = let p = c .before .before .before .before .before .before .before .before .before .before .before .before .before .before .before .before .before .before .before .before .before .before .before .before .before .before .before .before .before .before .before .pre in record { given = p .0; tables = c .before .before .before .before .before .before .before .before .before .before .before .before .before .before .before .fill .ensures .tables; room = p .2; held = p .1 }
+in-long-room-requires : tie.Need-in-long-room-requires
+in-long-room-requires c κs = let p = c .before .before .before .before .before .before .before .before .before .before .before .before .pre in (p .0, p .1, p .2, c .before .before .before .before .before .before .fill .ensures .tables)
 
 same-length : tie.Need-same-length
-same-length c = search needs
-
-same-length-2 : tie.Need-same-length-2
-same-length-2 c = search needs
-
-same-length-3 : tie.Need-same-length-3
-same-length-3 c = search needs
-
-same-length-4 : tie.Need-same-length-4
-same-length-4 c = search needs
-
-same-length-5 : tie.Need-same-length-5
-same-length-5 c = search needs
-
-same-length-6 : tie.Need-same-length-6
-same-length-6 c = search needs
-
-same-length-7 : tie.Need-same-length-7
-same-length-7 c = search needs
-
-same-length-8 : tie.Need-same-length-8
-same-length-8 c = search needs
-
-same-length-9 : tie.Need-same-length-9
-same-length-9 c = search needs
-
-same-length-10 : tie.Need-same-length-10
-same-length-10 c = search needs
-
-same-length-11 : tie.Need-same-length-11
-same-length-11 c = search needs
+same-length c = c .before .before .in-long-room .kept .1 .1 .1 .1 .1 .1 .1 .0
 
 returns : tie.Need-returns
-returns c = search needs
+returns c = c .before .before .in-long-room .ensures
+
+slice-aggregate-in-short-room : tie.Need-slice-aggregate-in-short-room
+slice-aggregate-in-short-room c = sym (c .before .before .before .before .fill .kept .1 .0)
+
+slice-aggregate-in-short-room-2 : tie.Need-slice-aggregate-in-short-room-2
+slice-aggregate-in-short-room-2 c = sym (c .before .before .before .before .before .fill .kept .1 .1 .0)
+
+in-short-room-requires : tie.Need-in-short-room-requires
+in-short-room-requires c κs = let p = c .before .before .before .before .before .before .before .before .before .before .before .before .pre in (p .0, p .1, p .2, c .before .before .before .before .before .before .fill .ensures .tables, p .3 (c .before .before .before .if1 .left))
+
+same-length-2 : tie.Need-same-length-2
+same-length-2 c = c .before .before .in-short-room .kept .1 .1 .1 .1 .1 .1 .1 .0
+
+returns-2 : tie.Need-returns-2
+returns-2 c = c .before .before .in-short-room .ensures
 
 pub by-small-tables-spec : {M : Type 1} → statement M
 by-small-tables-spec =
@@ -70,18 +55,13 @@ by-small-tables-spec =
     slice-aggregate-fill
     slice-aggregate-fill-2
     fill-requires
-    slice-aggregate-correct
-    slice-aggregate-correct-2
-    correct-requires
+    slice-aggregate-in-long-room
+    slice-aggregate-in-long-room-2
+    in-long-room-requires
     same-length
+    returns
+    slice-aggregate-in-short-room
+    slice-aggregate-in-short-room-2
+    in-short-room-requires
     same-length-2
-    same-length-3
-    same-length-4
-    same-length-5
-    same-length-6
-    same-length-7
-    same-length-8
-    same-length-9
-    same-length-10
-    same-length-11
-    returns)
+    returns-2)

@@ -1,119 +1,65 @@
-use native.Mathlib.Omega.{arith}
--- `room::room::in_long_room` meets its contract: arrays of 1,024.
+-- `room::room::in_long_room` meets its contract: arrays of 1,024 hold any certificate's terms, and all of them are 0.
+use mathlib.Core.Path.{refl}
 use Rattle.decoding.proofs.Arrays.{long-room, terms-few}
-use borrow.Author.Needs.{needs}
 use Rattle.room.proofs.room.in_long_room.Statement.{statement}
 use Rattle.room.proofs.room.in_long_room.Tie as tie
 use Rattle.room.proofs.room.in_long_room.Reads as reads
 use Rattle.room.proofs.room.in_long_room.Lts as lts
-use Rattle.room.proofs.room.by_large_tables.Reads as by-large-tables-reads
-use Rattle.room.proofs.room.by_small_tables.Reads as by-small-tables-reads
+use Rattle.correction.proofs.correct.correct.Reads as correct-reads
 
-slice-aggregate-by-small-tables : tie.Need-slice-aggregate-by-small-tables
-slice-aggregate-by-small-tables c = search needs
+slice-aggregate-correct : tie.Need-slice-aggregate-correct
+slice-aggregate-correct c = refl
 
-slice-aggregate-by-small-tables-2 : tie.Need-slice-aggregate-by-small-tables-2
-slice-aggregate-by-small-tables-2 c = search needs
+slice-aggregate-correct-2 : tie.Need-slice-aggregate-correct-2
+slice-aggregate-correct-2 c = refl
 
-slice-aggregate-by-small-tables-3 : tie.Need-slice-aggregate-by-small-tables-3
-slice-aggregate-by-small-tables-3 c = search needs
+slice-aggregate-correct-3 : tie.Need-slice-aggregate-correct-3
+slice-aggregate-correct-3 c = refl
 
-slice-aggregate-by-small-tables-4 : tie.Need-slice-aggregate-by-small-tables-4
-slice-aggregate-by-small-tables-4 c = search needs
+slice-aggregate-correct-4 : tie.Need-slice-aggregate-correct-4
+slice-aggregate-correct-4 c = refl
 
-slice-aggregate-by-small-tables-5 : tie.Need-slice-aggregate-by-small-tables-5
-slice-aggregate-by-small-tables-5 c = search needs
+slice-aggregate-correct-5 : tie.Need-slice-aggregate-correct-5
+slice-aggregate-correct-5 c = refl
 
-slice-aggregate-by-small-tables-6 : tie.Need-slice-aggregate-by-small-tables-6
-slice-aggregate-by-small-tables-6 c = search needs
+slice-aggregate-correct-6 : tie.Need-slice-aggregate-correct-6
+slice-aggregate-correct-6 c = refl
 
-slice-aggregate-by-small-tables-7 : tie.Need-slice-aggregate-by-small-tables-7
-slice-aggregate-by-small-tables-7 c = search needs
+slice-aggregate-correct-7 : tie.Need-slice-aggregate-correct-7
+slice-aggregate-correct-7 c = refl
 
-slice-aggregate-by-small-tables-8 : tie.Need-slice-aggregate-by-small-tables-8
-slice-aggregate-by-small-tables-8 c = search needs
+slice-aggregate-correct-8 : tie.Need-slice-aggregate-correct-8
+slice-aggregate-correct-8 c = refl
 
-slice-aggregate-by-small-tables-9 : tie.Need-slice-aggregate-by-small-tables-9
-slice-aggregate-by-small-tables-9 c = search needs
+slice-aggregate-correct-9 : tie.Need-slice-aggregate-correct-9
+slice-aggregate-correct-9 c = refl
 
-slice-aggregate-by-small-tables-10 : tie.Need-slice-aggregate-by-small-tables-10
-slice-aggregate-by-small-tables-10 c = search needs
+slice-aggregate-correct-10 : tie.Need-slice-aggregate-correct-10
+slice-aggregate-correct-10 c = refl
 
-by-small-tables-requires : tie.Need-by-small-tables-requires
-by-small-tables-requires c κs = let p = c .before .before .before .before .before .before .before .before .before .before .before .before .before .before .before .pre in (p .0, p .1, long-room (p .0 .most) (p .2) (terms-few (p .0)), c .before .before .before .before .before .before .before .before .before .before .before .if1 .taken)
+correct-requires : tie.Need-correct-requires
+correct-requires c κs = let p = c .before .before .before .before .before .before .before .before .before .before .before .before .before .before .before .before .pre in record { given = p .0; tables = p .3; room = long-room (p .0 .most) (p .2) (terms-few (p .0)); held = p .1 }
 
 same-length : tie.Need-same-length
-same-length c = search needs
+same-length c = c .before .before .before .before .before .before .before .before .before .before .before .before .correct .kept .1 .1 .1 .1 .1 .1 .1 .1 .1 .1 .1 .1 .1 .1 .1 .1 .1 .0
 
 returns : tie.Need-returns
-returns c = search needs
-
-slice-aggregate-by-large-tables : tie.Need-slice-aggregate-by-large-tables
-slice-aggregate-by-large-tables c = search needs
-
-slice-aggregate-by-large-tables-2 : tie.Need-slice-aggregate-by-large-tables-2
-slice-aggregate-by-large-tables-2 c = search needs
-
-slice-aggregate-by-large-tables-3 : tie.Need-slice-aggregate-by-large-tables-3
-slice-aggregate-by-large-tables-3 c = search needs
-
-slice-aggregate-by-large-tables-4 : tie.Need-slice-aggregate-by-large-tables-4
-slice-aggregate-by-large-tables-4 c = search needs
-
-slice-aggregate-by-large-tables-5 : tie.Need-slice-aggregate-by-large-tables-5
-slice-aggregate-by-large-tables-5 c = search needs
-
-slice-aggregate-by-large-tables-6 : tie.Need-slice-aggregate-by-large-tables-6
-slice-aggregate-by-large-tables-6 c = search needs
-
-slice-aggregate-by-large-tables-7 : tie.Need-slice-aggregate-by-large-tables-7
-slice-aggregate-by-large-tables-7 c = search needs
-
-slice-aggregate-by-large-tables-8 : tie.Need-slice-aggregate-by-large-tables-8
-slice-aggregate-by-large-tables-8 c = search needs
-
-slice-aggregate-by-large-tables-9 : tie.Need-slice-aggregate-by-large-tables-9
-slice-aggregate-by-large-tables-9 c = search needs
-
-slice-aggregate-by-large-tables-10 : tie.Need-slice-aggregate-by-large-tables-10
-slice-aggregate-by-large-tables-10 c = search needs
-
-by-large-tables-requires : tie.Need-by-large-tables-requires
-by-large-tables-requires c κs = let p = c .before .before .before .before .before .before .before .before .before .before .before .before .before .before .before .pre in (p .0, p .1, long-room (p .0 .most) (p .2) (terms-few (p .0)))
-
-same-length-2 : tie.Need-same-length-2
-same-length-2 c = search needs
-
-returns-2 : tie.Need-returns-2
-returns-2 c = search needs
+returns c = c .before .before .before .before .before .before .before .before .before .before .before .before .correct .ensures
 
 pub in-long-room-spec : {M : Type 1} → statement M
 in-long-room-spec =
     tie.close
     (tie.spec
-    slice-aggregate-by-small-tables
-    slice-aggregate-by-small-tables-2
-    slice-aggregate-by-small-tables-3
-    slice-aggregate-by-small-tables-4
-    slice-aggregate-by-small-tables-5
-    slice-aggregate-by-small-tables-6
-    slice-aggregate-by-small-tables-7
-    slice-aggregate-by-small-tables-8
-    slice-aggregate-by-small-tables-9
-    slice-aggregate-by-small-tables-10
-    by-small-tables-requires
+    slice-aggregate-correct
+    slice-aggregate-correct-2
+    slice-aggregate-correct-3
+    slice-aggregate-correct-4
+    slice-aggregate-correct-5
+    slice-aggregate-correct-6
+    slice-aggregate-correct-7
+    slice-aggregate-correct-8
+    slice-aggregate-correct-9
+    slice-aggregate-correct-10
+    correct-requires
     same-length
-    returns
-    slice-aggregate-by-large-tables
-    slice-aggregate-by-large-tables-2
-    slice-aggregate-by-large-tables-3
-    slice-aggregate-by-large-tables-4
-    slice-aggregate-by-large-tables-5
-    slice-aggregate-by-large-tables-6
-    slice-aggregate-by-large-tables-7
-    slice-aggregate-by-large-tables-8
-    slice-aggregate-by-large-tables-9
-    slice-aggregate-by-large-tables-10
-    by-large-tables-requires
-    same-length-2
-    returns-2)
+    returns)

@@ -16,13 +16,13 @@ pack-word-requires : tie.Need-pack-word-requires
 pack-word-requires c κs = let r = c .before .before .before .before .before .before .before .before .before .before .before .before .before .before .before .before .before .before .before .before .before .before .before .pre in (held-binary (encoded-holds (r .0) (c .before .before .before .before .before .before .before .before .before .before .before .before .before .sheet-generator .ensures) (c .before .before .before .before .codeword-places .ensures)), omega (arith, r .1 .out-long, for-most (c .before .before .before .before .before .before .before .before .before .before .before .before .before .before .before .before .before .before .before .before .before .before .before .args .n), r .2 .w-long, c .before .before .before .before .codeword-places .kept .1 .1 .1 .1 .1 .0, c .before .before .before .before .before .before .before .before .before .before .before .before .before .sheet-generator .kept .1 .1 .1 .1 .1 .1 .0), omega (arith, r .1 .out-long, for-most (c .before .before .before .before .before .before .before .before .before .before .before .before .before .before .before .before .before .before .before .before .before .before .before .args .n), r .0 .n-is, r .0 .head .most))
 
 same-length : tie.Need-same-length
-same-length c = search needs
+same-length c = c .before .before .pack-word .kept .1 .0
 
 same-length-2 : tie.Need-same-length-2
-same-length-2 c = search needs
+same-length-2 c = c .before .before .before .before .before .before .before .before .before .before .before .before .before .before .before .before .sheet-generator .kept .1 .1 .1 .1 .0
 
 same-length-3 : tie.Need-same-length-3
-same-length-3 c = search needs
+same-length-3 c = c .before .before .before .before .before .before .before .before .before .before .before .before .before .before .before .before .sheet-generator .kept .1 .1 .1 .1 .1 .0
 
 same-length-4 : tie.Need-same-length-4
 same-length-4 c = search needs

@@ -16,10 +16,10 @@ pack-message-requires : tie.Need-pack-message-requires
 pack-message-requires c κs = let r = c .before .before .before .before .before .before .before .before .before .pre in (held-binary (spread-part refl (c .before .before .before .before .spread-word .ensures) (r .clear)), omega (arith, r .out-long, for-most (c .before .before .before .before .before .before .before .before .before .args .k), r .w-long, c .before .before .before .before .spread-word .kept .1 .1 .1 .0), omega (arith, r .out-long, for-most (c .before .before .before .before .before .before .before .before .before .args .k), r .most))
 
 same-length : tie.Need-same-length
-same-length c = search needs
+same-length c = c .before .before .before .before .before .before .before .spread-word .kept .1 .1 .1 .0
 
 same-length-2 : tie.Need-same-length-2
-same-length-2 c = search needs
+same-length-2 c = c .before .before .pack-message .kept .1 .0
 
 returns : tie.Need-returns
 returns c = let r = c .before .before .before .before .before .before .before .before .before .before .before .before .pre in message-read (c .before .before .before .before .before .before .before .spread-word .ensures) (c .before .before .pack-message .ensures) (r .clear) (omega (arith, r .out-long, c .before .before .pack-message .kept .1 .0)) (λ i. omega (arith, c .slice-known4 .given i))

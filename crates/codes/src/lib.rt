@@ -1,0 +1,2 @@
+// Minus the number of a refusal: what the C interface returns for it.
+pub mod codes;

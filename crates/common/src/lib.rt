@@ -1,0 +1,2 @@
+// Whether two masks have a common factor.
+pub mod common;

@@ -1,0 +1,2 @@
+// Bytes copied, and listed places of a word flipped.
+pub mod flips;

@@ -1,0 +1,2 @@
+// The record of an accepted sheet.
+pub mod record;

@@ -1,0 +1,26 @@
+// Answers in the paper's numbers.
+ghost use mathlib.Core.Path.{_≡_};
+ghost use Rattle.document.specs.Answer.{numberOf};
+use document::types::Refusal;
+
+// The number of a refusal in document 01's table.
+pub fn refusal_number(r: Refusal) -> usize
+    ensures { λ x. ⌜ x ≡ numberOf r ⌝ }
+{
+    match r {
+        Refusal::SheetLength => 1,
+        Refusal::CodeLength => 2,
+        Refusal::FieldDegree => 3,
+        Refusal::Header => 4,
+        Refusal::Representative => 5,
+        Refusal::NoMessage => 6,
+        Refusal::Range => 7,
+        Refusal::CommonFactor => 8,
+        Refusal::Period => 9,
+        Refusal::Term => 10,
+        Refusal::BufferLength => 11,
+        Refusal::SpareBit => 12,
+        Refusal::NoneNear => 13,
+        Refusal::NoCodeword => 14,
+    }
+}

@@ -1,2 +1,0 @@
--- Bytes copied, and places changed one by one.
-pub mod Repairing

@@ -67,8 +67,8 @@ extern "C" {
  * library take for themselves is not counted. tools/stack measures the archive and writes these lines: docs/STACK.md. */
 #define DUNEFORK_ENCODE_STACK 860
 #define DUNEFORK_READ_STACK 876
-#define DUNEFORK_DECODE_STACK 79816
-#define DUNEFORK_DECODE_STACK_SMALL 33736 /* on a sheet whose s, the third number of its listing, is at most 8 */
+#define DUNEFORK_DECODE_STACK 79704
+#define DUNEFORK_DECODE_STACK_SMALL 33624 /* on a sheet whose s, the third number of its listing, is at most 8 */
 #define DUNEFORK_CARD_STACK 1100
 
 /* What a call returns where it refuses. The conditions are tried in this order; those of certificates (RANGE to TERM) for one

@@ -1,6 +1,7 @@
 // The arrays that correcting a word works in, by the code's size: tables for s up to 8 or up to 12, and polynomials of 64 or of
-// 1,024 coefficients. Clearing large arrays costs more than correcting a short code's word. Each function that owns arrays is
-// called at two places, so that the compiler leaves it a frame of its own: a code takes stack for its own size alone.
+// 1,024 coefficients. Clearing large arrays costs more than correcting a short code's word. The functions that own tables are
+// called at two places each, so that the compiler leaves them frames of their own: a code with s up to 8 takes no stack for the
+// large ones.
 ghost use mathlib.Core.Path.{_≡_};
 ghost use mathlib.Core.Bool.{false};
 ghost use Prim.Native.Nat.{_<_, _≤_};

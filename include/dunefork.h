@@ -69,6 +69,7 @@ extern "C" {
 #define DUNEFORK_READ_STACK 876
 #define DUNEFORK_DECODE_STACK 79704
 #define DUNEFORK_DECODE_STACK_SMALL 33624 /* on a sheet whose s, the third number of its listing, is at most 8 */
+#define DUNEFORK_DECODE_STACK_SHORT 7016 /* on such a sheet whose certificates all have fewer than 64 terms (L) */
 #define DUNEFORK_CARD_STACK 1100
 
 /* What a call returns where it refuses. The conditions are tried in this order; those of certificates (RANGE to TERM) for one

@@ -1,6 +1,6 @@
 // Document 01's table of masks, and products of elements by shifts and masks alone.
 ghost use mathlib.Core.Path.{_≡_};
-ghost use Prim.Native.Nat.{_-_, _*_, _/_, _%_, _^_, _<_};
+ghost use Prim.Native.Nat.{_-_, _^_, _<_};
 ghost use Rattle.field.specs.Field.{Degree, «mask» as maskOf, ω, fieldMultiply};
 
 // Document 01's table, indexed by degree from 2 on.

@@ -1,5 +1,5 @@
 // Sums of polynomials over two elements in slices of 0 and 1, low coefficient first.
-ghost use Prim.Native.Nat.{_+_, _<_, _≤_};
+ghost use Prim.Native.Nat.{_+_, _≤_};
 ghost use lib.ListN.{length};
 ghost use Rattle.binary.specs.Bits.{Added, Summed};
 

@@ -1,4 +1,4 @@
-// The listing of a sheet.
+// The listing of an accepted sheet, from its record.
 ghost use mathlib.Core.Path.{_≡_};
 ghost use mathlib.Core.List.{[], _∷_};
 ghost use lib.ListN.{length};

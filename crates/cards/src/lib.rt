@@ -1,2 +1,2 @@
-// The listing of an accepted sheet.
+// The listing, for an accepted sheet.
 pub mod card;

@@ -1,14 +1,12 @@
 // A certificate read from the sheet, and rule 1.
 ghost use mathlib.Core.Path.{_≡_};
-ghost use mathlib.Core.Bool.{true, not};
-ghost use Prim.Native.Nat.{_+_, _-_, _*_, _/_, _%_, _<_, _≤_};
+ghost use mathlib.Core.Bool.{not};
+ghost use Prim.Native.Nat.{_<_, _≤_};
 ghost use Rattle.document.specs.Sheet.{representativeCount, certificateCount, «certificate» as certificateOf};
 ghost use Rattle.document.specs.Certificate.{steps, ratio, extent, rule1};
 ghost use Rattle.sheet.specs.Stage.{Headed};
 ghost use Rattle.certificate.specs.Rules.{Fits, certificateAs};
-ghost use Rattle.masks.specs.Factor.{coprime};
 use crate::types::Certificate;
-use document::types::Refusal;
 use sheet::sheet::byte;
 use sheet::sheet::number;
 

@@ -1,10 +1,9 @@
 // A certificate against rules 1 to 4: refusals 7 to 10, and its distance.
 ghost use mathlib.Core.Path.{_≡_};
-ghost use Prim.Native.Nat.{_+_, _-_, _/_, _<_, _≤_};
+ghost use Prim.Native.Nat.{_+_, _-_, _/_, _≤_};
 ghost use Rattle.certificate.specs.Rules.{Checkable, checkedAs, checkOf, distanceIn};
 use certificate::range::read;
 use certificate::range::wrong_range;
-use certificate::types::Certificate;
 use certificate::types::Checked;
 use document::types::Refusal;
 use rules::rules::wrong_period;

@@ -1,6 +1,5 @@
 // The listing of a sheet.
 ghost use mathlib.Core.Path.{_≡_};
-ghost use lib.ListN.{length};
 ghost use Rattle.document.specs.Answer.{repliedAs};
 ghost use Rattle.document.specs.Card.{cardOf};
 use crate::judge::judge;

@@ -1,6 +1,5 @@
 // Reading out: the message in the high places of a codeword.
 ghost use mathlib.Core.Path.{_≡_};
-ghost use Prim.Native.Nat.{_-_};
 ghost use Rattle.document.specs.Answer.{repliedAs};
 ghost use Rattle.document.specs.Entry.{readOf};
 use crate::judge::judge;

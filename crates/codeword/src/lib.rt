@@ -1,2 +1,2 @@
-// The sheet's generator, and the test for a codeword.
+// What an accepted sheet's code is: its generator, and which words are codewords.
 pub mod test;

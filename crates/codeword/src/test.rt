@@ -1,6 +1,5 @@
 // The sheet's generator, and the test for a codeword.
 ghost use mathlib.Core.Path.{_≡_};
-ghost use Prim.Native.Nat.{_+_};
 ghost use lib.ListN.{length};
 ghost use Rattle.document.specs.Layout.{bytesFor};
 ghost use Rattle.codeword.specs.Room.{Usable, Fresh, Generated, Tested};

@@ -1,6 +1,6 @@
 // Whether two masks have a common factor, by Euclid's algorithm.
 ghost use mathlib.Core.Path.{_≡_};
-ghost use Prim.Native.Nat.{_+_, _*_, _/_, _%_, _^_, _<_, _≤_};
+ghost use Prim.Native.Nat.{_+_, _*_, _^_, _<_, _≤_};
 ghost use Rattle.field.specs.Mask.{_⊕_, coefficient, remainder as remainderOf};
 ghost use Rattle.masks.specs.Factor.{degree as degreeOf, common as commonOf, Ratio};
 use factor::factor::degree;

@@ -1,8 +1,7 @@
 // The defining set: cosets of the representatives marked in a lent array of zeros, one walk for each; refusal 5.
 ghost use mathlib.Core.Path.{_≡_};
-ghost use mathlib.Core.Bool.{false};
 ghost use mathlib.Core.List.{[]};
-ghost use Prim.Native.Nat.{_+_, _<_, _≤_};
+ghost use Prim.Native.Nat.{_<_, _≤_};
 ghost use lib.ListN.{length, getD};
 ghost use Rattle.field.specs.Search.{total};
 ghost use Rattle.field.specs.Field.{OddLength, orderOfTwo};

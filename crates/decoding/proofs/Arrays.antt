@@ -1,11 +1,12 @@
 -- The arrays as they are made.
 --
 --   cleared      an array of 0 has no coefficients
---   short-room, long-room      room for 63 terms, and for 1,023
---   degree-of, terms-few       s is a degree of the table, and L at most 1,023
+--   lodged       a word of a code of fewer than k terms, in arrays of k
+--   degree-of, terms-few       s is a degree of the table, and L below 1,024
 --   small-tables, large-tables      room for the tables of a degree up to 8, and up to 12
---   any-terms    a long room holds any number of terms
-use mathlib.Core.Path.{_≡_, refl, sym, _∙_, subst}
+--   any-terms    where the long room is chosen, nothing is asked of L
+--   again        an answer made anew says what it said
+use mathlib.Core.Path.{_≡_, refl, sym, subst}
 use mathlib.Core.Logic.{_⊎_, inl, inr}
 use mathlib.Core.Bool.{true, false}
 use mathlib.Core.List.{List}
@@ -22,62 +23,53 @@ use Rattle.certificate.specs.declared.types.Certificate.{Certificate as CodeCer
 use Rattle.certificate.specs.Rules.{certificateAs}
 use Rattle.distance.proofs.Rules.{in-range}
 use Rattle.poly.specs.Slice.{Short}
-use Rattle.decoding.specs.Correct.{Given, Room}
+use Rattle.decoding.specs.declared.types.Correction.{Correction}
+use Rattle.decoding.specs.Correct.{Given, Room, Held, Correctable, Corrected}
 
-cleared : (m : ℕ) → Short 0 (replicate m 0)
+abbrev pub zeros : ℕ → List ℕ
+zeros m = replicate m 0
+
+cleared : (m : ℕ) → Short 0 (zeros m)
 cleared m = record { at = λ i h. go i (le-or-lt m i) }
   where
-    go : (i : ℕ) → (m ≤ i) ⊎ (i < m) → _≡_ {A = ℕ} (getD (replicate m 0) i 0) 0
-    go i (inl h) = List·getD-eq-default (replicate m 0) 0 (omega (arith, length-replicate {A = ℕ} m 0))
+    go : (i : ℕ) → (m ≤ i) ⊎ (i < m) → _≡_ {A = ℕ} (getD (zeros m) i 0) 0
+    go i (inl h) = List·getD-eq-default (zeros m) 0 (omega (arith, length-replicate {A = ℕ} m 0))
     go i (inr h) = getD-replicate {A = ℕ} m i 0 0 h
 
-pub short-room : {n L : ℕ} {list : List ℕ} → n ≤ 127 → n ≤ length list → L < 64
-    → Room n L (replicate 32 0) (replicate 128 0) (replicate 64 0) (replicate 64 0) (replicate 64 0) (replicate 64 0) (replicate 64 0) (replicate 64 0)
-    (replicate 64 0) (replicate 64 0) list
-short-room h k l = record {
-  col-long = omega arith;
-  list-long = k;
-  val-long = omega arith;
-  a-long = omega arith;
-  b-long = omega arith;
-  v-long = omega arith;
-  x-long = omega arith;
-  lg-long = (omega arith, omega arith);
-  st-long = (omega arith, omega arith);
-  lo-long = (omega arith, omega arith);
-  hi-long = (omega arith, omega arith);
-  a-zero = cleared 64;
-  b-zero = cleared 64;
-  v-zero = cleared 64;
-  x-zero = cleared 64;
-}
+room : {n L k : ℕ} {list : List ℕ} → n ≤ 127 → n ≤ length list → L < k
+    → Room n L (zeros 32) (zeros 128) (zeros k) (zeros k) (zeros k) (zeros k) (zeros k) (zeros k) (zeros k) (zeros k) list
+room {L = L} {k} h l m =
+    let z : length (zeros k) ≡ k = length-replicate {A = ℕ} k 0 in
+    let y : L < length (zeros k) = omega (arith, z) in
+    let x : length (zeros k) ≤ length (zeros k) = omega arith in
+    record {
+      col-long = omega arith;
+      list-long = l;
+      val-long = omega arith;
+      a-long = y;
+      b-long = y;
+      v-long = y;
+      x-long = y;
+      lg-long = (x, x);
+      st-long = (x, x);
+      lo-long = (x, x);
+      hi-long = (x, x);
+      a-zero = cleared k;
+      b-zero = cleared k;
+      v-zero = cleared k;
+      x-zero = cleared k;
+    }
 
-pub long-room : {n L : ℕ} {list : List ℕ} → n ≤ 127 → n ≤ length list → L ≤ 1023
-    → Room n L (replicate 32 0) (replicate 128 0) (replicate 1024 0) (replicate 1024 0) (replicate 1024 0) (replicate 1024 0) (replicate 1024 0) (replicate 1024 0)
-    (replicate 1024 0) (replicate 1024 0) list
-long-room h k l = record {
-  col-long = omega arith;
-  list-long = k;
-  val-long = omega arith;
-  a-long = omega arith;
-  b-long = omega arith;
-  v-long = omega arith;
-  x-long = omega arith;
-  lg-long = (omega arith, omega arith);
-  st-long = (omega arith, omega arith);
-  lo-long = (omega arith, omega arith);
-  hi-long = (omega arith, omega arith);
-  a-zero = cleared 1024;
-  b-zero = cleared 1024;
-  v-zero = cleared 1024;
-  x-zero = cleared 1024;
-}
+pub lodged : {n s t : ℕ} {c : CodeCertificate} {reps e g list w : List ℕ} (k : ℕ) → Given n s t c reps → Held n w → n ≤ length list
+    → Tables.Tables s e g → c .terms < k
+    → Correctable n s t c reps e g (zeros 32) (zeros 128) (zeros k) (zeros k) (zeros k) (zeros k) (zeros k) (zeros k) (zeros k) (zeros k) list w
+lodged k p h l y m = record { given = p; tables = y; room = room (p .most) l m; held = h }
 
 pub degree-of : {n s t : ℕ} {c : CodeCertificate} {reps : List ℕ} → Given n s t c reps → Degree s
 degree-of p = subst Degree (sym (p .s-is)) (degree (p .length-of))
 
-pub terms-few : {n s t : ℕ} {c : CodeCertificate} {reps : List ℕ} → Given n s t c reps → c .terms ≤ 1023
-terms-few {c = c} {reps} p = in-range (p .length-of) reps (certificateAs c) (p .sound) .L-high
+pub terms-few : {n s t : ℕ} {c : CodeCertificate} {reps : List ℕ} → Given n s t c reps → c .terms < 1024
+terms-few {c = c} {reps} p = omega (arith, in-range (p .length-of) reps (certificateAs c) (p .sound) .L-high)
 
 pub small-tables : {s : ℕ} → Degree s → s ≤ 8 → Tables.Room s (replicate 1280 0) (replicate 256 0)
 small-tables {s} d h = let b : 2 ^ s ≤ 2 ^ 8 = pow-mono h in record { degree = d; e-long = omega arith; g-long = omega arith }
@@ -87,3 +79,6 @@ large-tables {s} d = let b : 2 ^ s ≤ 2 ^ 12 = pow-mono (d .hi) in record { deg
 
 pub any-terms : {L : ℕ} → true ≡ false → L < 64
 any-terms e = absurd (true-ne-false refl e)
+
+pub again : {n t : ℕ} {reps w list : List ℕ} {x y : Correction} → Corrected n t reps w list x → x ≡ y → Corrected n t reps w list y
+again {n} {t} {reps} {w} {list} h e = subst (Corrected n t reps w list) e h

@@ -1,6 +1,6 @@
 // The degree of the field that holds the n-th roots of 1.
 ghost use mathlib.Core.Path.{_≡_};
-ghost use Prim.Native.Nat.{_+_, _*_, _%_, _<_};
+ghost use Prim.Native.Nat.{_*_, _%_, _<_};
 ghost use Rattle.field.specs.Field.{OddLength, orderOfTwo};
 
 // 2 x modulo n, with no division.

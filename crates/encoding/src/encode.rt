@@ -1,4 +1,4 @@
-// Encoding: the message in the high places, the remainder below.
+// A message encoded by an accepted sheet: 11 and 12, then the message in the high places, the remainder below.
 ghost use mathlib.Core.Path.{_≡_};
 ghost use Rattle.document.specs.Answer.{repliedAs};
 ghost use Rattle.document.specs.Entry.{encodeOf};

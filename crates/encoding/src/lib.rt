@@ -1,2 +1,2 @@
-// A message encoded by an accepted sheet: refusals 11 and 12, and the codeword's bytes.
+// Encoding, for an accepted sheet.
 pub mod encode;

@@ -1,5 +1,4 @@
 // Euclid's algorithm on rows: a row is a remainder with its cofactor, (a, w) or (b, v).
-ghost use Prim.Native.Nat.{_-_, _<_};
 ghost use Rattle.poly.specs.Key.{Solvable, Outcome};
 use division::division::reduce;
 use poly::row::length_of;

@@ -1,6 +1,6 @@
 // A power of ω times an element, by the tables.
 ghost use mathlib.Core.Path.{_≡_};
-ghost use Prim.Native.Nat.{_+_, _-_, _*_, _^_, _<_, _≤_};
+ghost use Prim.Native.Nat.{_-_, _*_, _^_, _<_, _≤_};
 ghost use Rattle.field.specs.Field.{ω, fieldMultiply, fieldPower};
 ghost use Rattle.tables.specs.Tables.{Tables};
 use logarithm::product::log;

@@ -1,6 +1,6 @@
 // Coprime numbers, and the degree of a mask.
 ghost use mathlib.Core.Path.{_≡_};
-ghost use Prim.Native.Nat.{_/_, _%_, _<_};
+ghost use Prim.Native.Nat.{_<_};
 ghost use Rattle.masks.specs.Factor.{coprime as coprimeOf, degree as degreeOf};
 
 // x and y keep the divisors that a and b have in common: at the end y is 0, and x is the greatest.

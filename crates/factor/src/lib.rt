@@ -1,2 +1,2 @@
-// Coprime numbers, and the degree of a mask.
+// Whether two numbers are coprime, and what degree a mask has.
 pub mod factor;

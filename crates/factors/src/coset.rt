@@ -1,6 +1,5 @@
 // The product of x - α^i over one coset, in the field.
-ghost use Prim.Native.Nat.{_+_, _^_, _<_};
-ghost use Rattle.field.specs.Field.{α};
+ghost use Prim.Native.Nat.{_^_, _<_};
 ghost use Rattle.factors.specs.Coefficients.{Roomy, Timed, Walking, One, Walked};
 use degree::order::twice;
 

@@ -1,6 +1,5 @@
 // Refusals 5 to 10 in turn, the working certificate, and the record of a sheet that draws none.
 ghost use mathlib.Core.Path.{_≡_};
-ghost use Prim.Native.Nat.{_-_, _/_};
 ghost use mathlib.Core.List.{[]};
 ghost use Rattle.document.specs.Answer.{judgedAs};
 ghost use Rattle.document.specs.Sheet.{codeLength};

@@ -4,7 +4,6 @@ ghost use Prim.Native.Nat.{_-_, _<_, _≤_};
 ghost use lib.ListN.{getD};
 ghost use Rattle.poly.specs.Division.{Addable, Second, Reducible, Reduced, InverseAt};
 use exponent::scaled::scaled;
-use logarithm::product::inverse;
 use logarithm::product::log;
 use poly::row::add_scaled;
 use poly::row::add_two;

@@ -1,5 +1,4 @@
 // The places at which a factor divides a locator.
-ghost use Prim.Native.Nat.{_-_, _^_};
 ghost use Rattle.locator.specs.Locate.{Search, Located};
 use arithmetic::product::order;
 use locator::walk::walk;

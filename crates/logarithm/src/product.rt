@@ -1,7 +1,7 @@
 // Products and inverses by the tables: a product is one sum of logarithms.
 ghost use mathlib.Core.Path.{_≡_};
-ghost use Prim.Native.Nat.{_+_, _-_, _^_, _<_};
-ghost use Rattle.field.specs.Field.{ω, fieldMultiply, logarithm, inverses, valuesOf};
+ghost use Prim.Native.Nat.{_^_, _<_};
+ghost use Rattle.field.specs.Field.{fieldMultiply, logarithm, inverses, valuesOf};
 ghost use Rattle.tables.specs.Tables.{Tables};
 use arithmetic::product::order;
 use field::types::Quotient;

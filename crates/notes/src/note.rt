@@ -1,5 +1,5 @@
 // A place noted in a list.
-ghost use Prim.Native.Nat.{_-_, _<_, _≤_};
+ghost use Prim.Native.Nat.{_<_, _≤_};
 ghost use lib.ListN.{length};
 ghost use Rattle.locator.specs.Locate.{Noted, NotedBelow};
 

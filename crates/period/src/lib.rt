@@ -1,2 +1,2 @@
-// The period of a mask.
+// The period of a mask, which rule 3 asks for.
 pub mod period;

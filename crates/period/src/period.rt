@@ -1,7 +1,7 @@
 // The period of a mask f: the smallest p above 0 for which f divides x^p + 1.
 ghost use mathlib.Core.Path.{_≡_};
-ghost use Prim.Native.Nat.{_+_, _*_, _/_, _%_, _^_, _<_};
-ghost use Rattle.field.specs.Mask.{coefficient, remainder as remainderOf};
+ghost use Prim.Native.Nat.{_*_, _^_, _<_};
+ghost use Rattle.field.specs.Mask.{remainder as remainderOf};
 ghost use Rattle.masks.specs.Factor.{period as periodOf, Modulus};
 
 // x a modulo f: one shift, and f taken off where the coefficient of x^u came up.

@@ -1,6 +1,6 @@
 // Inverses and quotients of elements: absent exactly where the divisor is 0.
 ghost use mathlib.Core.Path.{_≡_};
-ghost use Prim.Native.Nat.{_-_, _/_, _^_, _<_};
+ghost use Prim.Native.Nat.{_^_, _<_};
 ghost use Rattle.field.specs.Field.{Degree, inverses, quotients, valuesOf};
 use crate::power::power;
 use arithmetic::product::multiply;

@@ -1,6 +1,6 @@
 // Powers of elements, by squaring.
 ghost use mathlib.Core.Path.{_≡_};
-ghost use Prim.Native.Nat.{_-_, _/_, _%_, _^_, _<_};
+ghost use Prim.Native.Nat.{_%_, _^_, _<_};
 ghost use Rattle.field.specs.Field.{Degree, fieldMultiply, fieldPower};
 use arithmetic::product::multiply;
 

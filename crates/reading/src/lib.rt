@@ -1,2 +1,2 @@
-// A word read out by an accepted sheet: refusals 11, 12 and 14, and the message's bytes.
+// Reading out, for an accepted sheet.
 pub mod read;

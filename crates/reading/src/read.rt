@@ -1,6 +1,5 @@
-// Reading out: the message in the high places of a codeword.
+// A word read out by an accepted sheet: 11, 12 and 14, then the message in its high places.
 ghost use mathlib.Core.Path.{_≡_};
-ghost use Prim.Native.Nat.{_-_};
 ghost use Rattle.document.specs.Answer.{repliedAs};
 ghost use Rattle.document.specs.Entry.{readOf};
 ghost use Rattle.codeword.specs.Room.{Usable};

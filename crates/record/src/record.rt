@@ -1,6 +1,5 @@
 // The record made of a sheet.
 ghost use mathlib.Core.Path.{_≡_};
-ghost use Prim.Native.Nat.{_+_, _-_, _/_};
 ghost use Rattle.document.specs.Answer.{recordAs};
 ghost use Rattle.document.specs.Judge.{recordOf};
 ghost use Rattle.weighing.specs.Weigh.{Recordable};

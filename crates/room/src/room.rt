@@ -1,7 +1,9 @@
 // The arrays that correcting a word works in, by the code's size: tables for s up to 8 or up to 12, and polynomials of 64 or of
-// 1,024 coefficients. Clearing large arrays costs more than correcting a short code's word. The functions that own tables are
-// called at two places each, so that the compiler leaves them frames of their own: a code with s up to 8 takes no stack for the
-// large ones.
+// 1,024 coefficients. Clearing large arrays costs more than correcting a short code's word.
+//
+// Each function that owns arrays keeps a frame of its own, so that a code takes stack for its own size alone. For that it is called
+// at two places, since the compiler joins a function with its only caller; and a room takes its answer apart and makes it anew, since
+// the compiler joins a small function without a branch with all its callers. tools/stack fails if a large one is joined.
 ghost use mathlib.Core.Path.{_≡_};
 ghost use mathlib.Core.Bool.{false};
 ghost use Prim.Native.Nat.{_<_, _≤_};
@@ -37,7 +39,7 @@ fn in_short_room(
     let mut st = [0u16; 64];
     let mut lo = [0u64; 64];
     let mut hi = [0u64; 64];
-    correct(
+    let Correction::Places(m) = correct(
         n,
         s,
         t,
@@ -57,7 +59,10 @@ fn in_short_room(
         &mut hi,
         list,
         w,
-    )
+    ) else {
+        return Correction::None;
+    };
+    Correction::Places(m)
 }
 
 fn in_long_room(
@@ -84,7 +89,7 @@ fn in_long_room(
     let mut st = [0u16; 1024];
     let mut lo = [0u64; 1024];
     let mut hi = [0u64; 1024];
-    correct(
+    let Correction::Places(m) = correct(
         n,
         s,
         t,
@@ -104,7 +109,10 @@ fn in_long_room(
         &mut hi,
         list,
         w,
-    )
+    ) else {
+        return Correction::None;
+    };
+    Correction::Places(m)
 }
 
 fn by_small_tables(

@@ -1,12 +1,11 @@
 // Rules 3 and 4: the period of f, and the terms of h/f walked by a shift register.
 ghost use mathlib.Core.Path.{_≡_};
-ghost use mathlib.Core.Bool.{true, not};
-ghost use Prim.Native.Nat.{_+_, _-_, _*_, _/_, _%_, _<_, _≤_};
+ghost use mathlib.Core.Bool.{not};
+ghost use Prim.Native.Nat.{_+_, _*_, _/_, _%_, _<_, _≤_};
 ghost use Rattle.certificate.specs.Rules.{Walkable, Ruled, certificateAs};
 ghost use Rattle.masks.specs.Factor.{coprime, period, Modulus};
 ghost use Rattle.field.specs.Mask.{_⊕_};
 use certificate::types::Certificate;
-use document::types::Refusal;
 
 // The register of h/f after one term: its lowest coefficient is the term, and f times it is taken off before the shift.
 pub fn next_register(f: usize, num: usize) -> usize

@@ -1,5 +1,5 @@
 // The places, searched and listed.
-ghost use Prim.Native.Nat.{_-_, _^_, _<_, _≤_};
+ghost use Prim.Native.Nat.{_-_, _^_, _≤_};
 ghost use lib.ListN.{length};
 ghost use Rattle.tables.specs.Tables.{Powered};
 ghost use Rattle.locator.specs.Terms.{vanishes as vanishesOf, vanishesAlone, Logged, Searchable};

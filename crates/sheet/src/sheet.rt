@@ -1,7 +1,7 @@
 // The sheet's header: the conditions of refusals 1 to 4, each tried where those before it do not hold.
 ghost use mathlib.Core.Path.{_≡_};
 ghost use mathlib.Core.Bool.{false};
-ghost use Prim.Native.Nat.{_+_, _*_, _<_, _≤_};
+ghost use Prim.Native.Nat.{_+_, _<_, _≤_};
 ghost use lib.ListN.{length};
 ghost use Rattle.document.specs.Sheet.{byteAt, numberAt};
 ghost use Rattle.document.specs.Judge.{wrongLength, wrongCodeLength, wrongDegree, wrongHeader};

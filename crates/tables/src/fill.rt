@@ -1,6 +1,6 @@
 // Filling the tables: the powers of ω five times round, and the logarithms.
 ghost use mathlib.Core.Path.{_≡_};
-ghost use Prim.Native.Nat.{_+_, _-_, _*_, _^_, _<_, _≤_};
+ghost use Prim.Native.Nat.{_-_, _^_};
 ghost use Rattle.tables.specs.Tables.{Room, Powers, Logs, Filled};
 use arithmetic::product::double;
 use arithmetic::product::mask;

@@ -1,6 +1,6 @@
 // Certificates weighed: the working certificate.
 ghost use mathlib.Core.Path.{_≡_};
-ghost use Prim.Native.Nat.{_+_, _-_, _/_, _<_, _≤_};
+ghost use Prim.Native.Nat.{_≤_};
 ghost use Rattle.weighing.specs.Weigh.{Weighable, bestOf, weighedAs, weighOf};
 use crate::types::Best;
 use crate::types::Weighed;

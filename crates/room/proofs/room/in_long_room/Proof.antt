@@ -1,6 +1,6 @@
 -- `room::room::in_long_room` meets its contract: arrays of 1,024 hold any certificate's terms, and all of them are 0.
 use mathlib.Core.Path.{refl}
-use Rattle.decoding.proofs.Arrays.{long-room, terms-few}
+use Rattle.decoding.proofs.Arrays.{lodged, terms-few, again}
 use Rattle.room.proofs.room.in_long_room.Statement.{statement}
 use Rattle.room.proofs.room.in_long_room.Tie as tie
 use Rattle.room.proofs.room.in_long_room.Reads as reads
@@ -38,13 +38,25 @@ slice-aggregate-correct-10 : tie.Need-slice-aggregate-correct-10
 slice-aggregate-correct-10 c = refl
 
 correct-requires : tie.Need-correct-requires
-correct-requires c κs = let p = c .before .before .before .before .before .before .before .before .before .before .before .before .before .before .before .before .pre in record { given = p .0; tables = p .3; room = long-room (p .0 .most) (p .2) (terms-few (p .0)); held = p .1 }
+correct-requires c κs = let p = c .before .before .before .before .before .before .before .before .before .before .before .before .before .before .before .before .pre in lodged 1024 (p .0) (p .1) (p .2) (p .3) (terms-few (p .0))
+
+enum-known-m : tie.Need-enum-known-m
+enum-known-m c = c .match .keys1
+
+enum-told : tie.Need-enum-told
+enum-told c = c .match .keys2
 
 same-length : tie.Need-same-length
-same-length c = c .before .before .before .before .before .before .before .before .before .before .before .before .correct .kept .1 .1 .1 .1 .1 .1 .1 .1 .1 .1 .1 .1 .1 .1 .1 .1 .1 .0
+same-length c = c .before .before .before .before .before .before .before .before .before .before .before .before .before .before .correct .kept .1 .1 .1 .1 .1 .1 .1 .1 .1 .1 .1 .1 .1 .1 .1 .1 .1 .0
 
 returns : tie.Need-returns
-returns c = c .before .before .before .before .before .before .before .before .before .before .before .before .correct .ensures
+returns c = again (c .before .before .before .before .before .before .before .before .before .before .before .before .before .before .correct .ensures) (c .enum-told .given .1)
+
+same-length-2 : tie.Need-same-length-2
+same-length-2 c = c .before .before .before .before .before .before .before .before .before .before .before .before .before .before .before .correct .kept .1 .1 .1 .1 .1 .1 .1 .1 .1 .1 .1 .1 .1 .1 .1 .1 .1 .0
+
+returns-2 : tie.Need-returns-2
+returns-2 c = again (c .before .before .before .before .before .before .before .before .before .before .before .before .before .before .before .correct .ensures) (c .before .m .given .1)
 
 pub in-long-room-spec : {M : Type 1} → statement M
 in-long-room-spec =
@@ -61,5 +73,9 @@ in-long-room-spec =
     slice-aggregate-correct-9
     slice-aggregate-correct-10
     correct-requires
+    enum-known-m
+    enum-told
     same-length
-    returns)
+    returns
+    same-length-2
+    returns-2)

@@ -67,8 +67,8 @@ extern "C" {
  * library take for themselves is not counted. tools/stack measures the archive and writes these lines: docs/STACK.md. */
 #define DUNEFORK_ENCODE_STACK 860
 #define DUNEFORK_READ_STACK 876
-#define DUNEFORK_DECODE_STACK 79704
-#define DUNEFORK_DECODE_STACK_SMALL 33624 /* on a sheet whose s, the third number of its listing, is at most 8 */
+#define DUNEFORK_DECODE_STACK 79992
+#define DUNEFORK_DECODE_STACK_SMALL 33896 /* on a sheet whose s, the third number of its listing, is at most 8 */
 #define DUNEFORK_DECODE_STACK_SHORT 7016 /* on such a sheet whose certificates all have fewer than 64 terms (L) */
 #define DUNEFORK_CARD_STACK 1100
 

@@ -7,7 +7,7 @@
 --   zero-ne-one, mono-ne      polynomials that are not 0
 --   unit-degree, unit-const   a polynomial with an inverse is a constant
 --   lead, lead-below  the multiple of d that takes the leading coefficient of p away
---   Quotient, divide  quotient and remainder
+--   PolyQuotient, divide  quotient and remainder
 --   divides-short     a polynomial shorter than its divisor is 0
 use mathlib.Core.Path.{_≡_, refl, sym, _∙_, ap}
 use mathlib.Core.Logic.{_≢_, _⊎_, inl, inr, _↔_}
@@ -114,14 +114,14 @@ module _ {A : Type 0} (R : Ring A) where
         strike a b i e = follows R a e (simp ring)
 
     -- of p, below m, by d, of degree n
-    pub record Quotient (m n : ℕ) (p d : ℕ → A) : Type 0 where
+    pub record PolyQuotient (m n : ℕ) (p d : ℕ → A) : Type 0 where
       pub quo : ℕ → A
       pub rem : ℕ → A
       pub quo-below : Below R (m -ℕ n) quo
       pub rem-below : Below R n rem
       pub eq : p ≡ quo ⊗ d ⊕ rem
 
-    short : {m n : ℕ} {p d : ℕ → A} → m ≤ n → Below R m p → Quotient m n p d
+    short : {m n : ℕ} {p d : ℕ → A} → m ≤ n → Below R m p → PolyQuotient m n p d
     short {p = p} h b = record {
       quo = 0ₛ;
       rem = p;
@@ -130,7 +130,7 @@ module _ {A : Type 0} (R : Ring A) where
       eq = simp ring;
     }
 
-    pub divide : (m n : ℕ) (p d : ℕ → A) → Below R m p → Deg n d → Quotient m n p d
+    pub divide : (m n : ℕ) (p d : ℕ → A) → Below R m p → Deg n d → PolyQuotient m n p d
     divide zero n p d b g = short (omega arith) b
     divide (suc m) n p d b g =
         elim (le-or-lt (suc m) n) [
@@ -138,7 +138,7 @@ module _ {A : Type 0} (R : Ring A) where
           | inr h ↦ next h (divide m n (p ⊕ lead m n p d ⊗ d) d (lead-below (omega arith) b g) g)
         ]
       where
-        next : n < suc m → Quotient m n (p ⊕ lead m n p d ⊗ d) d → Quotient (suc m) n p d
+        next : n < suc m → PolyQuotient m n (p ⊕ lead m n p d ⊗ d) d → PolyQuotient (suc m) n p d
         next h z = record {
           quo = z .quo ⊕ lead m n p d;
           rem = z .rem;

@@ -5,7 +5,7 @@
 --   Distinct l      no two elements are equal: d-nil, d-cons; distinct-map
 --   distinct-le     distinct elements that are all in m are no more than m has
 --   prod R f l      the product of f b over the elements b: prod-nil, prod-cons
---   sumL R f l      their sum: sumL-nil, sumL-cons
+--   sumL R f l      their sum
 use mathlib.Core.Path.{_≡_, refl, sym, _∙_}
 use mathlib.Core.Logic.{_≢_}
 use mathlib.Core.List.{List, [], _∷_, map}
@@ -101,11 +101,3 @@ module _ {A : Type 0} (R : Ring A) where
   unfoldable pub sumL : {B : Type 0} → (B → A) → List B → A
   sumL f [] = 𝟘
   sumL f (b ∷ l) = f b + sumL f l
-
-  pub sumL-nil : {B : Type 0} (f : B → A) → sumL f [] ≡ 𝟘
-  unfolding sumL
-  sumL-nil f = refl
-
-  pub sumL-cons : {B : Type 0} (f : B → A) (b : B) (l : List B) → sumL f (b ∷ l) ≡ f b + sumL f l
-  unfolding sumL
-  sumL-cons f b l = refl

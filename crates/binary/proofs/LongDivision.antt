@@ -1,6 +1,6 @@
 -- Long division and products in slices of 0 and 1.
 --
---   Reduced               a slice holds a mask of i places with the remainder that is asked for
+--   ReducedTo               a slice holds a mask of i places with the remainder that is asked for
 --   Dividing, dividing-start, dividing-more, dividing-end      so from the top down
 --   Multiplying, multiplying-start, multiplying-more, multiplying-end      the product, coefficient by coefficient
 use mathlib.Core.Path.{_≡_, refl, sym, ap, ap₂, _∙_, subst}
@@ -14,7 +14,7 @@ use lib.Pow.{pow-mono, pow-pos, shl-shr, shr-shr}
 use Rattle.field.specs.Mask.{_⊕_, coefficient, productBelow, clmul, remainder}
 use Rattle.field.proofs.Xor.{digit, digit-lt, ⊕-zero-l, ⊕-self, ⊕-norm, ⊕-shr}
 use Rattle.field.proofs.Remainder.{lt-of-high}
-use Rattle.field.proofs.Product.{clmul-zero-r, clmul-add-r, clmul-pow, product-enough}
+use Rattle.field.proofs.MaskProduct.{clmul-zero-r, clmul-add-r, clmul-pow, product-enough}
 use Rattle.cyclic.proofs.Division.{divide, remainder-is}
 use Rattle.cyclic.proofs.Lift.{lt-of-degree}
 use Rattle.binary.specs.Bits.{Holds, Summed, Divided, Multiplied}
@@ -63,14 +63,14 @@ module _ (m p : ℕ) (e : p / 2 ^ m ≡ 1) where
           (ap (λ (x : ℕ). x / 2 ^ (m + j)) (one-mul (p * 2 ^ j)) ∙ one-high)
 
 -- ---- from the top down
-pub record Reduced (m i a b : ℕ) (w : List ℕ) : Type 0 where
+pub record ReducedTo (m i a b : ℕ) (w : List ℕ) : Type 0 where
   pub value : ℕ
   pub held : Holds value w
   pub small : value < 2 ^ i
   pub same : remainder m a value ≡ remainder m a b
 
 pub record Dividing (n m i : ℕ) (g w w′ : List ℕ) : Type 0 where
-  pub reduced : {a b : ℕ} → Holds a g → a / 2 ^ m ≡ 1 → Holds b w → b < 2 ^ n → Reduced m i a b w′
+  pub reduced : {a b : ℕ} → Holds a g → a / 2 ^ m ≡ 1 → Holds b w → b < 2 ^ n → ReducedTo m i a b w′
 
 pub dividing-start : {n m : ℕ} {g w : List ℕ} → Dividing n m n g w w
 dividing-start = record { reduced = λ {a} {b} h e k l. record { value = b; held = k; small = l; same = refl } }

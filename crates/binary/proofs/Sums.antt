@@ -22,7 +22,7 @@ use Rattle.algebra.proofs.Poly.{le-or-lt}
 use Rattle.field.specs.Mask.{_⊕_, coefficient}
 use Rattle.field.proofs.Xor.{⊕-zero-r, bit-⊕, bit-ext}
 use Rattle.cyclic.proofs.Places.{coefficient-above, coefficient-zero}
-use Rattle.binary.specs.Bits.{Holds, Added, Summed, Moved, Any}
+use Rattle.binary.specs.Bits.{Holds, AddedAt, Summed, Moved, Any}
 
 -- ---- a mask times x^at
 pub shift-at : (a at j : ℕ) → coefficient (at + j) (a * 2 ^ at) ≡ coefficient j a
@@ -41,15 +41,15 @@ shift-low a at i h =
 pub held-above : {a m : ℕ} {p : List ℕ} → Holds a p → a < 2 ^ m → (i : ℕ) → m ≤ i → getD p i 0 ≡ 0
 held-above h l i k = h .at i ∙ coefficient-above l i k
 
-pub added-start : {at : ℕ} {g w : List ℕ} → Added at 0 g w w
+pub added-start : {at : ℕ} {g w : List ℕ} → AddedAt at 0 g w w
 added-start = record { low = λ i h. refl; inside = λ j h. absurd (omega arith); high = λ i h. refl }
 
 xor-is : (x y v : ℕ) → v ≡ bitXor x y → v ≡ x ⊕ y
 unfolding _⊕_
 xor-is x y v e = e
 
-pub added-more : {at j v : ℕ} {g w w′ : List ℕ} → Added at j g w w′ → at + j < length w′ → v ≡ bitXor (getD w′ (at + j) 0) (getD g j 0)
-    → Added at (j + 1) g w (set w′ (at + j) v)
+pub added-more : {at j v : ℕ} {g w w′ : List ℕ} → AddedAt at j g w w′ → at + j < length w′ → v ≡ bitXor (getD w′ (at + j) 0) (getD g j 0)
+    → AddedAt at (j + 1) g w (set w′ (at + j) v)
 added-more {at} {j} {v} {g} {w} {w′} t h e = record {
   low = λ i k. getD-set-other w′ (at + j) i v 0 (λ z. omega arith) ∙ t .low i k;
   inside = λ i k. elim (ℕ-discrete i j) [
@@ -63,7 +63,7 @@ added-more {at} {j} {v} {g} {w} {w′} t h e = record {
 }
 
 module _ {at m : ℕ} {g w w′ : List ℕ} where
-  sum-at : {a b : ℕ} → Added at m g w w′ → Holds a g → a < 2 ^ m → Holds b w → (i : ℕ)
+  sum-at : {a b : ℕ} → AddedAt at m g w w′ → Holds a g → a < 2 ^ m → Holds b w → (i : ℕ)
       → getD w′ i 0 ≡ coefficient i b ⊕ coefficient i (a * 2 ^ at)
   sum-at {a} {b} t h l k i = elim (decLt i at) [
     | yes q ↦ t .low i q ∙ k .at i ∙ sym (ap (λ (x : ℕ). coefficient i b ⊕ x) (shift-low a at i q) ∙ ⊕-zero-r (coefficient i b))
@@ -77,7 +77,7 @@ module _ {at m : ℕ} {g w w′ : List ℕ} where
           ∙ sym (ap (λ (x : ℕ). coefficient (at + j) b ⊕ x) (shift-at a at j ∙ coefficient-above l j q) ∙ ⊕-zero-r _)
       from j (inr q) = t .inside j q ∙ ap₂ _⊕_ (k .at (at + j)) (h .at j ∙ sym (shift-at a at j))
 
-  pub summed-one : {bit : ℕ} → bit ≡ 1 → Added at m g w w′ → Summed at m bit g w w′
+  pub summed-one : {bit : ℕ} → bit ≡ 1 → AddedAt at m g w w′ → Summed at m bit g w w′
   summed-one {bit} e t = record {
     holds = λ {a} {b} s h l k. record {
       at = λ i. sum-at t h l k i
@@ -92,8 +92,8 @@ summed-none {at} {m} {bit} {g} {w} n = record {
       subst (λ (x : ℕ). Holds x w) (sym (ap (λ (x : ℕ). b ⊕ x * (a * 2 ^ at)) z ∙ ap (λ (x : ℕ). b ⊕ x) (zero-mul (a * 2 ^ at)) ∙ ⊕-zero-r b)) k;
 }
 
-pub added-end : {at j m : ℕ} {g w w′ : List ℕ} → j ≡ m → Added at j g w w′ → Added at m g w w′
-added-end {at} {j} {m} {g} {w} {w′} e t = subst (λ (x : ℕ). Added at x g w w′) e t
+pub added-end : {at j m : ℕ} {g w w′ : List ℕ} → j ≡ m → AddedAt at j g w w′ → AddedAt at m g w w′
+added-end {at} {j} {m} {g} {w} {w′} e t = subst (λ (x : ℕ). AddedAt at x g w w′) e t
 
 -- ---- entries handed over
 pub record Moving (i : ℕ) (p q p′ q′ : List ℕ) : Type 0 where

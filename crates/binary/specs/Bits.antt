@@ -1,7 +1,7 @@
 -- Polynomials over two elements in slices of 0 and 1, and what their functions pass on. No entry's contract cites this file.
 --
 --   Holds a p              the slice p holds the coefficients of the mask a, low first, and 0 past them
---   Added at m g w w′      w′ is w with the first m entries of g added from place `at` on
+--   AddedAt at m g w w′      w′ is w with the first m entries of g added from place `at` on
 --   Summed .. bit ..       so for masks, where the bit is 1
 --   Divided n m g w w′     w′ holds the remainder of w, of n places, by g of degree m
 --   Multiplied k m p g     the product, in place of 0, of p with k and g with m coefficients
@@ -18,7 +18,7 @@ use Rattle.field.specs.Mask.{_⊕_, coefficient, clmul, remainder}
 pub record Holds (a : ℕ) (p : List ℕ) : Type 0 where
   pub at : (i : ℕ) → getD p i 0 ≡ coefficient i a
 
-pub record Added (at m : ℕ) (g w w′ : List ℕ) : Type 0 where
+pub record AddedAt (at m : ℕ) (g w w′ : List ℕ) : Type 0 where
   pub low : (i : ℕ) → i < at → getD w′ i 0 ≡ getD w i 0
   pub inside : (j : ℕ) → j < m → getD w′ (at + j) 0 ≡ getD w (at + j) 0 ⊕ getD g j 0
   pub high : (i : ℕ) → at + m ≤ i → getD w′ i 0 ≡ getD w i 0

@@ -13,8 +13,8 @@ use native.Mathlib.Nat.{div-le-self}
 use native.Mathlib.Omega.{arith}
 use lib.ListN.{length}
 use lib.Pow.{pow-mono}
-use Rattle.masks.specs.Factor.{coprime, degree, common, period, Modulus, Ratio}
-use Rattle.masks.proofs.Degree.{degree-low, degree-high, degree-eq}
+use Rattle.binary.specs.Factor.{coprime, degree, common, period, Modulus, Ratio}
+use Rattle.binary.proofs.Degree.{degree-low, degree-high, degree-eq}
 use Rattle.certificate.specs.declared.types.Certificate.{Certificate as CodeCertificate}
 use Rattle.document.specs.Answer.{Answer, returned, refused, firstOf, settle}
 use Rattle.document.specs.Sheet.{representatives, Certificate, certificate}

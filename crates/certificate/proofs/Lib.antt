@@ -1,4 +1,9 @@
 -- Why each rule of a certificate is what the code finds.
+-- Distance, and what decoding is to find, in the words of the definitions.
 pub mod Ranges
 pub mod Terms
 pub mod Checks
+pub mod RulesHeld
+pub mod Distance
+pub mod Sheets
+pub mod Decoding

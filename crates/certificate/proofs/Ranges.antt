@@ -14,7 +14,7 @@ use lib.Dec.{eqb, leb, ltb}
 use borrow.Author.Tests.{lt-ltb, le-ltb, le-leb, lt-leb, eq-eqb, ne-eqb, ltb-true, leb-true, eqb-true, eqb-false}
 use Rattle.field.specs.Mask.{coefficient}
 use Rattle.field.proofs.Search.{true-ne-false}
-use Rattle.masks.specs.Factor.{coprime, degree}
+use Rattle.binary.specs.Factor.{coprime, degree}
 use Rattle.document.specs.Sheet.{byteAt, numberAt, representativeCount, Certificate, certificate}
 use Rattle.document.specs.Certificate.{steps, ratio, extent, rule1}
 
@@ -165,7 +165,6 @@ pub record Ranged (n : ℕ) (c : Certificate) : Type 0 where
   pub f-odd : c .f % 2 ≡ 1
   pub h : c .h ≢ 0
   pub v : degree (c .h) < degree (c .f)
-  pub L-low : 1 ≤ c .L
   pub L-high : c .L ≤ 1023
   pub zero : c .zeroByte ≡ 0
 
@@ -193,7 +192,6 @@ ranged n c e =
       f-odd = sym (lowest (c .f)) ∙ eqb-true (coefficient 0 (c .f)) 1 (r₂ .1);
       h = eqb-false (c .h) 0 (fails (eqb (c .h) 0) (r₃ .1));
       v = ltb-true (degree (c .h)) (degree (c .f)) (r₄ .1);
-      L-low = leb-true 1 (c .L) (t₁ .0);
       L-high = leb-true (c .L) 1023 (t₁ .1);
       zero = eqb-true (c .zeroByte) 0 (t₂ .1);
     }

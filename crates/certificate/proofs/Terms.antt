@@ -21,9 +21,9 @@ use borrow.Author.Tests.{eq-eqb, ne-eqb}
 use Rattle.field.specs.Mask.{_⊕_}
 use Rattle.field.proofs.Search.{every-of}
 use Rattle.field.proofs.Xor.{⊕-zero-r}
-use Rattle.masks.specs.Factor.{degree, terms}
-use Rattle.masks.proofs.Coprime.{every-not}
-use Rattle.masks.proofs.Series.{register, register-z, register-s, register-lt, terms-at}
+use Rattle.binary.specs.Factor.{degree, terms}
+use Rattle.binary.proofs.Coprime.{every-not}
+use Rattle.binary.proofs.Series.{register, register-z, register-s, register-lt, terms-at}
 use Rattle.certificate.specs.declared.types.Certificate.{Certificate as CodeCertificate}
 use Rattle.document.specs.Coset.{inSet}
 use Rattle.document.specs.Certificate.{rule4}

@@ -9,7 +9,7 @@ use mathlib.Core.Bool.{Bool, not}
 use mathlib.Core.List.{List, [], _∷_}
 use Prim.Native.Nat.{ℕ, suc, _%_, _^_, _≤_, _<_}
 use lib.ListN.{length}
-use Rattle.masks.specs.Factor.{degree}
+use Rattle.binary.specs.Factor.{degree}
 use Rattle.certificate.specs.declared.types.Certificate.{Certificate as CodeCertificate}
 use Rattle.certificate.specs.declared.types.Checked.{Checked}
 use Rattle.certificate.specs.declared.types.Checked.the-variants.{Distance, Refused}

@@ -7,8 +7,8 @@ ghost use Rattle.document.specs.Certificate.{steps, ratio, extent, rule1};
 ghost use Rattle.sheet.specs.Stage.{Headed};
 ghost use Rattle.certificate.specs.Rules.{Fits, certificateAs};
 use crate::types::Certificate;
-use sheet::sheet::byte;
-use sheet::sheet::number;
+use sheet::header::byte;
+use sheet::header::number;
 
 // Certificate c of a sheet with `reps` representatives.
 pub fn read(sheet: &[u8], reps: usize, c: usize) -> Certificate
@@ -46,7 +46,7 @@ fn wrong_steps(n: usize, c: Certificate) -> bool
     if n - 1 < c.z {
         return true;
     }
-    if factor::factor::coprime(c.z, n) {
+    if binary::factor::coprime(c.z, n) {
         return false;
     }
     true
@@ -57,7 +57,7 @@ fn wrong_ratio(c: Certificate) -> bool
     requires { ⌜ Fits c ⌝ }
     ensures { λ r. ⌜ r ≡ not (ratio (certificateAs c)) ⌝ }
 {
-    let u = factor::factor::degree(c.f);
+    let u = binary::factor::degree(c.f);
     if u < 1 {
         return true;
     }
@@ -70,7 +70,7 @@ fn wrong_ratio(c: Certificate) -> bool
     if c.h == 0 {
         return true;
     }
-    if u <= factor::factor::degree(c.h) {
+    if u <= binary::factor::degree(c.h) {
         return true;
     }
     false

@@ -33,16 +33,16 @@ use Rattle.document.specs.Generator.{valueAt, isCodeword, encodeMask, messageOf
 use Rattle.document.specs.Judge.{judgeConditions, dimensionOf, judgeOf}
 use Rattle.document.specs.Entry.{wrongSize, generatorOf, wordOf, encodedWord, encodeOf, readConditions, readOf}
 use Rattle.document.proofs.Sane.{settle-number}
-use Rattle.theory.proofs.Theory.{Length}
+use Rattle.document.proofs.Theory.{Length}
 use Rattle.document.proofs.Chain.{first-quiet, first-keep}
 use Rattle.document.proofs.Acceptance.{accepted-iff, judge-number, judge-le}
-use Rattle.theory.proofs.Demand2.{multiple-iff, defining-iff, representatives-iff, encode-is-codeword, encode-systematic, encode-lt, message-lt, codeword-is-encoding}
-use Rattle.sheet.proofs.Header.{headed-length}
-use Rattle.word.proofs.Places.{Weights, word-weights, message-weights, mask-lt, mask-coefficient, for-le, spare-clear, bytes-length, bytes-place, bytes-lt, mask-of-bytes, bytes-of-mask}
-use Rattle.codeword.specs.Room.{Usable}
+use Rattle.document.proofs.Demand2.{multiple-iff, defining-iff, representatives-iff, encode-is-codeword, encode-systematic, encode-lt, message-lt, codeword-is-encoding}
+use Rattle.sheet.proofs.Headed.{headed-length}
+use Rattle.codeword.proofs.Places.{Weights, word-weights, message-weights, mask-lt, mask-coefficient, for-le, spare-clear, bytes-length, bytes-place, bytes-lt, mask-of-bytes, bytes-of-mask}
+use Rattle.codeword.specs.Codewords.{Usable}
 use Rattle.binary.specs.Bits.{Holds}
-use Rattle.acceptance.proofs.Accepted.{accepted}
-use Rattle.acceptance.proofs.Entries.{encode-done, read-none, read-done}
+use Rattle.code.proofs.Accepted.{accepted}
+use Rattle.code.proofs.Entries.{encode-done, read-none, read-done}
 
 -- places of n in bytes: as many as they take, and no spare bit
 pub record Placed (weight : ℕ → ℕ) (n : ℕ) (bytes : List ℕ) : Type 0 where

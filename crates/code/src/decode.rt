@@ -3,9 +3,9 @@ ghost use mathlib.Core.Path.{_≡_};
 ghost use Rattle.document.specs.Answer.{repliedAs};
 ghost use Rattle.document.specs.Entry.{decodeOf};
 use crate::judge::judge;
+use decoder::decode::decode_accepted;
 use document::types::Judged;
 use document::types::Reply;
-use reception::decode::decode_accepted;
 
 // The corrected word into out; the number of changed places.
 pub fn decode(sheet: &[u8], word: &[u8], out: &mut [u8]) -> Reply

@@ -5,10 +5,10 @@ ghost use Rattle.document.specs.Judge.{judgeOf};
 use document::types::Judged;
 use document::types::Refusal;
 use judging::judge::judge_code;
-use sheet::sheet::wrong_code_length;
-use sheet::sheet::wrong_degree;
-use sheet::sheet::wrong_header;
-use sheet::sheet::wrong_length;
+use sheet::header::wrong_code_length;
+use sheet::header::wrong_degree;
+use sheet::header::wrong_header;
+use sheet::header::wrong_length;
 
 // The sheet's bytes to its record, or to the first refusal of 1 to 10.
 pub fn judge(sheet: &[u8]) -> Judged

@@ -1,6 +1,19 @@
-// The entries.
-pub mod card;
-pub mod decode;
-pub mod encode;
+// The entries, each for any input: judge, encode, read, decode and card; and the numbers of refusals.
+
+// document 01's numbers of refusals
+pub mod refusal;
+
+// a sheet to its record
 pub mod judge;
+
+// a message to its codeword
+pub mod encode;
+
+// a codeword to its message
 pub mod read;
+
+// a received word to the codeword near it
+pub mod decode;
+
+// a sheet to its listing
+pub mod card;

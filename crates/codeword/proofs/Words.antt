@@ -31,15 +31,15 @@ use Rattle.document.specs.Generator.{generator, isCodeword, encodeMask, message
 use Rattle.document.specs.Judge.{dimensionOf}
 use Rattle.document.specs.Entry.{generatorOf, wordOf, encodedWord}
 use Rattle.document.proofs.Sane.{set-size}
-use Rattle.theory.proofs.Theory.{Length}
-use Rattle.theory.proofs.GeneratorIs.{generator-degree}
-use Rattle.sheet.proofs.Header.{headed-length}
+use Rattle.document.proofs.Theory.{Length}
+use Rattle.document.proofs.GeneratorIs.{generator-degree}
+use Rattle.sheet.proofs.Headed.{headed-length}
 use Rattle.binary.specs.Bits.{Holds, Divided, Any}
-use Rattle.factors.specs.Building.{Rising, Lengths, Building}
-use Rattle.word.specs.Place.{Spread, Packed}
-use Rattle.word.proofs.Places.{word-weights, message-weights, mask-lt}
-use Rattle.word.proofs.Spreading.{spread-part, spread-shifted, packed-is}
-use Rattle.codeword.specs.Room.{Usable, Fresh, Generated, Tested, Encoded, MessageRead}
+use Rattle.generator.specs.Building.{Rising, Lengths, Building}
+use Rattle.codeword.specs.Place.{Spread, Packed}
+use Rattle.codeword.proofs.Places.{word-weights, message-weights, mask-lt}
+use Rattle.codeword.proofs.Spreading.{spread-part, spread-shifted, packed-is}
+use Rattle.codeword.specs.Codewords.{Usable, Fresh, Generated, RemainderTested, Encoded, MessageRead}
 
 -- ---- the generator
 module _ {sheet : List ℕ} {n k s : ℕ} (u : Usable sheet n k s) where
@@ -103,7 +103,7 @@ module _ {sheet : List ℕ} {n k s : ℕ} (u : Usable sheet n k s) where
         ap (λ (x : ℕ). eqb (remainder x (generatorOf sheet) c) 0) (sym (t .degree-is ∙ ap (λ (x : ℕ). x - dimensionOf sheet) (u .n-is)))
 
     pub tested : {word w₁ w₂ : List ℕ} {r : Bool} → Spread wordWeight 0 0 n word w w₁ → Divided n m g w₁ w₂ → Any m w₂ r
-        → Tested sheet word w₂ r
+        → RemainderTested sheet word w₂ r
     tested {word} {w₁} {w₂} {r} a d y =
         let c : ℕ = maskOf wordWeight n word in
         let h : Holds c w₁ = subst (λ (x : ℕ). Holds x w₁) (div-one c) (spread-part {from = 0} {count = n} (omega arith) a (t .clear)) in

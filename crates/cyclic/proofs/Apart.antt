@@ -1,6 +1,6 @@
 -- When f(α^i x) and f(α^j x) are coprime.
 --
---   Apart C f        they are, for all different i and j below n: what a certificate asks of its denominator
+--   FactorsApart C f        they are, for all different i and j below n: what a certificate asks of its denominator
 --   apart            where f divides x^p + 1, for some p coprime to n; apart-period: such as the period
 --   apart-step       and then also for the powers of α^z, with z coprime to n
 use mathlib.Core.Path.{_≡_, refl, sym, ap, ap₂, _∙_, fun-ext}
@@ -104,18 +104,18 @@ module _ {A : Type 0} (R : Ring A) (K : Field R) where
 module _ {A : Type 0} {R : Ring A} {n : ℕ} (C : Code R n) where
   open Code C using (K, α, order)
 
-  abbrev pub Apart : ℕ → Type 0
-  Apart f = (i j : ℕ) → i < n → j < n → i ≢ j
+  abbrev pub FactorsApart : ℕ → Type 0
+  FactorsApart f = (i j : ℕ) → i < n → j < n → i ≢ j
       → Coprime (Polys R) (sub R (pow R α i) (lift R f)) (sub R (pow R α j) (lift R f))
 
-  pub apart : (f p : ℕ) → f ∣ₘ 2 ^ p ⊻ 1 → NoFactor n p → Apart f
+  pub apart : (f p : ℕ) → f ∣ₘ 2 ^ p ⊻ 1 → NoFactor n p → FactorsApart f
   apart f p w co i j hi hj ne =
       apart-at R K f p w (pow R α i) (pow R α j) (λ e. ne (pow-apart R α n order p co i j hi hj e))
 
-  pub apart-period : {u f : ℕ} → Denominator u f → NoFactor n (period u f) → Apart f
+  pub apart-period : {u f : ℕ} → Denominator u f → NoFactor n (period u f) → FactorsApart f
   apart-period {u} {f} d co = apart f (period u f) (period-divides d) co
 
-  pub apart-step : (f z : ℕ) → NoFactor n z → Apart f → (i j : ℕ) → i < n → j < n → i ≢ j
+  pub apart-step : (f z : ℕ) → NoFactor n z → FactorsApart f → (i j : ℕ) → i < n → j < n → i ≢ j
       → Coprime (Polys R) (sub R (pow R α (i *ℕ z)) (lift R f)) (sub R (pow R α (j *ℕ z)) (lift R f))
   apart-step f z co a i j hi hj ne =
       rw (pow-mod R α n order (i *ℕ z), pow-mod R α n order (j *ℕ z))

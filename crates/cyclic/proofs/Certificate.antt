@@ -1,6 +1,6 @@
 -- A certificate on masks, and the syndromes that it supplies.
 --
---   Certificate C       start b, step z, masks f and h, L terms: what acceptance says of them
+--   RationalCertificate C       start b, step z, masks f and h, L terms: what acceptance says of them
 --   point T j           α^(b + j z), where syndrome j is taken
 --   alternant T         the fraction h / f at the points α^(i z); f-zero: its constant term
 --   weight T i          α^(i b), that of a one in place i
@@ -26,12 +26,12 @@ use Rattle.cyclic.proofs.NumberGcd.{NoFactor}
 use Rattle.cyclic.proofs.Period.{Denominator}
 use Rattle.cyclic.proofs.Ratio.{digits, ratio, ratio-eq}
 use Rattle.cyclic.proofs.CyclicCode.{Code, power-ne, Vanishes}
-use Rattle.cyclic.proofs.Apart.{Apart, apart-step}
+use Rattle.cyclic.proofs.Apart.{FactorsApart, apart-step}
 use Rattle.cyclic.proofs.Errors.{Place, all, all-sum, place-eq}
 use Rattle.cyclic.proofs.Syndromes.{Syndromes, weighted, syndrome}
 
 -- rule 3 enters by `apart`, which apart-period makes of a period coprime to n
-pub record Certificate {A : Type 0} {R : Ring A} {n : ℕ} (C : Code R n) : Type 0 where
+pub record RationalCertificate {A : Type 0} {R : Ring A} {n : ℕ} (C : Code R n) : Type 0 where
   pub b : ℕ
   pub z : ℕ
   pub f : ℕ
@@ -44,7 +44,7 @@ pub record Certificate {A : Type 0} {R : Ring A} {n : ℕ} (C : Code R n) : Type
   pub h-degree : h / 2 ^ v ≡ 1
   pub v-lt : v < u
   pub fh : NoCommon f h
-  pub apart : Apart C f
+  pub apart : FactorsApart C f
   pub terms : (j : ℕ) → j < L → (digits f h j ≡ 0) ⊎ Holds (C .D ((b +ℕ j *ℕ z) % n))
 
 -- identities of any ring
@@ -55,12 +55,12 @@ module _ {A : Type 0} (R : Ring A) where
   term : (c x y a w : A) → w ≡ x * y → c * x * (a * y) ≡ a * (c * w)
   term c x y a w e = let s : c * x * (a * y) ≡ a * (c * (x * y)) = simp ring in s ∙ ap (λ t. a * (c * t)) (sym e)
 
-module _ {A : Type 0} {R : Ring A} {n : ℕ} {C : Code R n} (T : Certificate C) where
+module _ {A : Type 0} {R : Ring A} {n : ℕ} {C : Code R n} (T : RationalCertificate C) where
   open Ring R using (mul as _*_, 𝟘)
 
   infixl 70 _*_
   open Code C using (K, α, order)
-  open Certificate T using (b, z, f, h, L)
+  open RationalCertificate T using (b, z, f, h, L)
 
   abbrev pub point : ℕ → A
   point j = pow R α (b +ℕ j *ℕ z)

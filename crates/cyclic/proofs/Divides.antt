@@ -3,18 +3,16 @@
 --   in-divides      a factor divides the product of all
 --   divides-mul     a divisor divides each multiple
 --   divides-const   a constant factor that is not 0 may be left off
---   divides?        divisibility by a polynomial of known degree is decided
-use mathlib.Core.Path.{_≡_, refl, sym, ap, _∙_, subst}
-use mathlib.Core.Logic.{_≢_, _⊎_, inl, inr}
+use mathlib.Core.Path.{refl, sym, ap, _∙_, subst}
+use mathlib.Core.Logic.{_≢_}
 use mathlib.Core.List.{List}
 use Prim.Native.Nat.{ℕ}
-use Rattle.algebra.proofs.Ring.{Ring, ring, mul-comm, mul-left-comm, mul-assoc, one-mul}
+use Rattle.algebra.proofs.Ring.{Ring, mul-comm, mul-left-comm, mul-assoc, one-mul}
 use Rattle.algebra.proofs.Field.{Field}
 use Rattle.algebra.proofs.Lists.{In, here, there, prod}
-use Rattle.algebra.proofs.Coprime.{Sub, has-prod, Divides, divides-step, divides-back}
-use Rattle.algebra.proofs.Series.{Ser, const, one-is, const-const, zero-at}
-use Rattle.algebra.proofs.Poly.{Below, Polys, is-poly, const-poly}
-use Rattle.algebra.proofs.Divide.{Deg, degree, Quotient, divide, divides-short}
+use Rattle.algebra.proofs.Coprime.{Sub, has-prod, Divides}
+use Rattle.algebra.proofs.Series.{Ser, const, one-is, const-const}
+use Rattle.algebra.proofs.Poly.{Polys, const-poly}
 
 module _ {A : Type 0} {R : Ring A} {P : A → Type 0} (S : Sub R P) where
   pub in-divides : {B : Type 0} (f : B → A) → ((b : B) → P (f b)) → {l : List B} {b : B} → In b l
@@ -50,26 +48,3 @@ module _ {A : Type 0} (R : Ring A) (K : Field R) where
       (const-const R (K .inv c) c ∙ ap (const R) (mul-comm R _ _ ∙ K .mul-inv c ne) ∙ sym (one-is R))
       ∙ one-mul (Ser R) q)
       (divides-mul (Polys R) k (const-poly R _) d)
-
-  -- p divides q exactly where it divides the remainder, which is shorter
-  pub divides? : {u m : ℕ} {p q : ℕ → A} → Deg R u p → Below R m q → Dec (Divides (Polys R) p q)
-  divides? {u} {m} {p} {q} g b = go (degree R K u (w .rem) (w .rem-below))
-    where
-      w : Quotient R K m u q p
-      w = divide R K m u q p b g
-
-      back : w .rem ⊕ w .quo ⊗ p ≡ q
-      back = let s : w .rem ⊕ w .quo ⊗ p ≡ w .quo ⊗ p ⊕ w .rem = simp ring in s ∙ sym (w .eq)
-
-      go : (w .rem ≡ Ser R .𝟘) ⊎ ((k : ℕ) × Deg R k (w .rem)) → Dec (Divides (Polys R) p q)
-      go (inl e) =
-          yes
-          (subst (Divides (Polys R) p) back
-          (divides-step (Polys R) (w .quo) (is-poly R (w .quo-below)) (divides-short R K g (w .rem-below) .1 e)))
-      go (inr e) =
-          no
-          (λ d. e .1 .top
-          (ap (λ p. p (e .0))
-          (divides-short R K g (w .rem-below) .0
-          (divides-back (Polys R) (w .quo) (is-poly R (w .quo-below)) (subst (Divides (Polys R) p) (sym back) d)))
-          ∙ zero-at R (e .0)))

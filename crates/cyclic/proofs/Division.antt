@@ -15,7 +15,7 @@ use borrow.Author.Tests.{ltb-false}
 use Rattle.field.specs.Mask.{_⊕_, coefficient, size, clmul, divideDown, remainder}
 use Rattle.field.proofs.Search.{least-is}
 use Rattle.field.proofs.Xor.{⊕-zero-r, ⊕-self, ⊕-shr}
-use Rattle.field.proofs.Product.{size-lt, clmul-add-r, clmul-one-l, clmul-comm, clmul-assoc}
+use Rattle.field.proofs.MaskProduct.{size-lt, clmul-add-r, clmul-one-l, clmul-comm, clmul-assoc}
 use Rattle.field.proofs.Remainder.{deg-of, lt-of-high, remainder-lt, remainder-unique, quotient}
 
 infix 50 _∣ₘ_

@@ -18,7 +18,7 @@ use Rattle.field.proofs.Remainder.{lt-of-high}
 use Rattle.cyclic.proofs.Division.{divide}
 use Rattle.cyclic.proofs.CyclicCode.{Code}
 use Rattle.cyclic.proofs.Generator.{checks, checks-le, dimension, generator, generator-degree}
-use Rattle.cyclic.proofs.Generator.{Codeword, codeword, codeword-add, short}
+use Rattle.cyclic.proofs.Generator.{InCode, codeword, codeword-add, short}
 
 module _ {A : Type 0} {R : Ring A} {n : ℕ} (C : Code R n) where
   -- x^(n-k) m, by the generator
@@ -55,7 +55,7 @@ module _ {A : Type 0} {R : Ring A} {n : ℕ} (C : Code R n) where
   pub read-lt : (c : ℕ) → c < 2 ^ n → c / 2 ^ checks C < 2 ^ dimension C
   read-lt c h = shr-lt (dimension C) (checks C) (subst (λ (k : ℕ). c < 2 ^ k) (sym whole) h)
 
-  pub encode-codeword : (m : ℕ) → Codeword C (encode m)
+  pub encode-codeword : (m : ℕ) → InCode C (encode m)
   unfolding encode
   encode-codeword m =
       let w = divide (checks C) (generator C) (generator-degree C) (m * 2 ^ checks C) in
@@ -65,7 +65,7 @@ module _ {A : Type 0} {R : Ring A} {n : ℕ} (C : Code R n) where
       strike a p r e = let s : p ⊕ r ⊕ r ≡ p = simp ⊕-norm in ap (λ (x : ℕ). x ⊕ r) e ∙ s
 
   -- two codewords with the same high places: their sum is shorter than the generator
-  pub encode-onto : (c : ℕ) → Codeword C c → encode (c / 2 ^ checks C) ≡ c
+  pub encode-onto : (c : ℕ) → InCode C c → encode (c / 2 ^ checks C) ≡ c
   encode-onto c w =
       let e : ℕ = encode (c / 2 ^ checks C) in
       ⊕-eq

@@ -6,11 +6,11 @@
 --   product C         the product of x + α^i over them: product-monic, product-binary (coefficients 0 and 1 only)
 --   generator C       the mask of that product: generator-lift, generator-coefficient
 --   generator-degree, generator-zero      its degree, and its zeros among the powers of α
---   Codeword C c      c is a multiple of the generator
+--   InCode C c      c is a multiple of the generator
 --   codeword          exactly where it vanishes on D
 --   generator-unique  the generator is the only mask of its degree that does
 --   short             a shorter mask that does is 0
---   codeword-add, codeword?      sums of codewords, and the property decided
+--   codeword-add      sums of codewords
 use mathlib.Core.Path.{_≡_, sym, ap, _∙_, subst}
 use mathlib.Core.Logic.{_⊎_, _↔_}
 use mathlib.Core.List.{List, map}
@@ -18,7 +18,7 @@ use lib.ListN.{length, length-map}
 use lib.Dec.{T}
 use Prim.Native.Nat.{ℕ, suc, _+_ as _+ℕ_, _-_ as _-ℕ_, _*_ as _*ℕ_, _/_, _%_, _^_, _≤_, _<_}
 use native.Mathlib.Nat.{mod-lt}
-use native.Mathlib.Decide.{decLt, map-dec}
+use native.Mathlib.Decide.{decLt}
 use native.Mathlib.Omega.{arith}
 use Rattle.algebra.proofs.Ring.{Ring, zero-add, zero-mul}
 use Rattle.algebra.proofs.Power.{pow, pow-add, pow-mod, pow-inj}
@@ -33,7 +33,7 @@ use Rattle.cyclic.proofs.Division.{_∣ₘ_, divides-add, divide, divid
 use Rattle.cyclic.proofs.Monic.{Monic, monic-deg, monic-eq, Π, Π-monic, Π-value, Π-root, root-Π, Π-divides, Π-any, sq, squares-Π}
 use Rattle.cyclic.proofs.Lift.{lift, lift-mul, lift-at, lift-below, lift-poly, lift-monic}
 use Rattle.cyclic.proofs.Lift.{lift-value, lift-null, lift-inj, pack, pack-lt, pack-lift}
-use Rattle.cyclic.proofs.CyclicCode.{Code, Vanishes, vanishes?}
+use Rattle.cyclic.proofs.CyclicCode.{Code, Vanishes}
 use Rattle.cyclic.proofs.Members.{members, members-in, in-members, members-distinct, members-le}
 
 module _ {A : Type 0} {R : Ring A} {n : ℕ} (C : Code R n) where
@@ -142,8 +142,8 @@ module _ {A : Type 0} {R : Ring A} {n : ℕ} (C : Code R n) where
           subst (λ (j : ℕ). T (D j)) (pow-inj R α n order (w .0) i (w .1) h (w .3)) (w .2)
 
   -- ---- codewords
-  abbrev pub Codeword : ℕ → Type 0
-  Codeword c = generator ∣ₘ c
+  abbrev pub InCode : ℕ → Type 0
+  InCode c = generator ∣ₘ c
 
   -- the product divides it
   pub short : (r : ℕ) → r < 2 ^ checks → Vanishes C r → r ≡ 0
@@ -154,14 +154,14 @@ module _ {A : Type 0} {R : Ring A} {n : ℕ} (C : Code R n) where
       (λ x m. let w = exponent x m in
       sym (lift-value R checks r x h) ∙ ap (λ y. value R y r) (sym (w .3)) ∙ v (w .0) (w .1) (w .2))))
 
-  pub codeword : (c : ℕ) → Codeword c ↔ Vanishes C c
+  pub codeword : (c : ℕ) → InCode c ↔ Vanishes C c
   codeword c = (λ m i h t. ap (value R (pow R α i)) (m .1) ∙ multiple (m .0) i h t, back)
     where
       multiple : (q : ℕ) → Vanishes C (clmul generator q)
       multiple q i h t = value-mul R (pow R α i) generator q ∙ rw (generator-zero i h .1 t) (zero-mul R _)
 
       -- the remainder vanishes, too
-      back : Vanishes C c → Codeword c
+      back : Vanishes C c → InCode c
       back v =
           let w = divide checks generator generator-degree c in
           divides-iff checks generator generator-degree c .1
@@ -170,10 +170,7 @@ module _ {A : Type 0} {R : Ring A} {n : ℕ} (C : Code R n) where
           ∙ ap (λ x. x + value R (pow R α i) (remainder checks generator c)) (sym (multiple (w .quo) i h t))
           ∙ sym (value-add R (pow R α i) _ _) ∙ ap (value R (pow R α i)) (sym (w .eq)) ∙ v i h t))
 
-  pub codeword? : (c : ℕ) → Dec (Codeword c)
-  codeword? c = map-dec (codeword c .1) (codeword c .0) (vanishes? C c)
-
-  pub codeword-add : (c d : ℕ) → Codeword c → Codeword d → Codeword (c ⊕ d)
+  pub codeword-add : (c d : ℕ) → InCode c → InCode d → InCode (c ⊕ d)
   codeword-add = divides-add generator
 
   pub generator-unique : (g : ℕ) → g / 2 ^ checks ≡ 1 → Vanishes C g → g ≡ generator

@@ -21,7 +21,7 @@ use Rattle.algebra.proofs.Poly.{Below, IsPoly, is-poly, le-or-lt, mono, mono-mu
 use Rattle.algebra.proofs.Value.{ev, ev-z, ev-s}
 use Rattle.field.specs.Mask.{_⊕_ as _⊻_, coefficient, clmul}
 use Rattle.field.proofs.Xor.{digit, digit-lt, ⊕-eq, bit-ext}
-use Rattle.field.proofs.Product.{size-lt}
+use Rattle.field.proofs.MaskProduct.{size-lt}
 use Rattle.field.proofs.Value.{coef, coef-0, coef-1, value, value-zero, value-one, value-step, value-add, value-mul}
 use Rattle.cyclic.proofs.Places.{coefficient-z, coefficient-s, coefficient-above, coefficient-zero, flag}
 use Rattle.cyclic.proofs.Places.{flag-lt, gather, gather-at, gather-lt}

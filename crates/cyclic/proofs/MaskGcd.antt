@@ -23,8 +23,8 @@ use Rattle.algebra.proofs.Divide.{Deg, Deg·mul}
 use Rattle.field.specs.Mask.{_⊕_, size, clmul, remainder}
 use Rattle.field.specs.Field.{Degree}
 use Rattle.field.proofs.Xor.{⊕-zero-r, ⊕-norm}
-use Rattle.field.proofs.Product.{size-lt, clmul-add-l, clmul-add-r, clmul-zero-l, clmul-zero-r}
-use Rattle.field.proofs.Product.{clmul-one-l, clmul-one-r, clmul-comm, clmul-assoc}
+use Rattle.field.proofs.MaskProduct.{size-lt, clmul-add-l, clmul-add-r, clmul-zero-l, clmul-zero-r}
+use Rattle.field.proofs.MaskProduct.{clmul-one-l, clmul-one-r, clmul-comm, clmul-assoc}
 use Rattle.field.proofs.Elements.{F, GF, isField}
 use Rattle.cyclic.proofs.Division.{_∣ₘ_, divides-add, divides-multiple, divide, size-le, degree-of}
 use Rattle.cyclic.proofs.Monic.{monic-deg}

@@ -4,18 +4,17 @@
 --   coefficient-above, coefficient-zero      places past the top, and those of the mask 0
 --   same-places      masks below 2^n are equal when their first n places are
 --   one-of           a coefficient that is not 0 is 1; same-bit: two are equal if both are 1 in the same case
---   flag d           1 where the decided property holds, else 0: flag-lt, flag-one
+--   flag d           1 where the decided property holds, else 0: flag-lt
 --   gather n d       the mask with d i in place i, for i below n: gather-at, gather-lt
 --   count n e        the number of ones in the first n places: count-z, count-s
---   count-add        of a sum, at most those of both; count-ones: all ones of a mask below 2^n
-use mathlib.Core.Path.{_≡_, refl, sym, ap, ap₂, _∙_}
+--   count-add        of a sum, at most those of both
+use mathlib.Core.Path.{_≡_, sym, ap, _∙_}
 use mathlib.Core.Logic.{_≢_, _⊎_, inl, inr, _↔_}
 use Prim.Native.Nat.{ℕ, zero, suc, _+_, _*_, _/_, _%_, _^_, _≤_, _<_}
-use native.Mathlib.Nat.{add-assoc, div-one, zero-div, div-eq-of-lt, lt-of-lt-of-le}
+use native.Mathlib.Nat.{div-one, zero-div, div-eq-of-lt, lt-of-lt-of-le}
 use native.Mathlib.Numerals.{one-add}
 use native.Mathlib.Decide.{ℕ-discrete}
 use native.Mathlib.Omega.{arith}
-use lib.Count.{ones, onesIn, ones-step}
 use lib.Pow.{shr-shr, pow-mono}
 use Rattle.algebra.proofs.Poly.{le-or-lt}
 use Rattle.field.specs.Search.{total}
@@ -67,11 +66,6 @@ unfolding flag
 flag-lt (yes p) = omega arith
 flag-lt (no p) = omega arith
 
-pub flag-one : {P : Type 0} (d : Dec P) → P ↔ (flag d ≡ 1)
-unfolding flag
-flag-one (yes p) = (λ x. refl, λ e. p)
-flag-one (no p) = (λ x. absurd (p x), λ e. absurd (omega arith))
-
 unfoldable pub gather : ℕ → (ℕ → ℕ) → ℕ
 gather zero d = 0
 gather (suc n) d = gather n (λ i. d (suc i)) * 2 + d 0
@@ -117,15 +111,3 @@ count-add (suc n) a b =
     at =
         digit (λ x. (y : ℕ) → y < 2 → x ⊕ y ≤ x + y) (λ y h. omega (arith, ⊕-zero-l y))
         (digit (λ y. 1 ⊕ y ≤ 1 + y) (omega (arith, ⊕-zero-r 1)) (omega (arith, ⊕-self 1)))
-
-count-low : (n e : ℕ) → count (suc n) e ≡ e % 2 + count n (e / 2)
-count-low zero e = rw (count-s 0 e, count-z e, count-z (e / 2), coefficient-z e) (omega arith)
-count-low (suc n) e =
-    count-s (suc n) e ∙ ap₂ _+_ (count-low n e) (coefficient-s n e) ∙ add-assoc (e % 2) (count n (e / 2)) _
-    ∙ ap (λ (x : ℕ). e % 2 + x) (sym (count-s n (e / 2)))
-
-pub count-ones : (n e : ℕ) → e < 2 ^ n → count n e ≡ ones e
-unfolding ones onesIn
-count-ones zero e h = let z : e ≡ 0 = omega arith in rw (z, count-z)
-count-ones (suc n) e h =
-    count-low n e ∙ ap (λ (x : ℕ). e % 2 + x) (count-ones n (e / 2) (omega arith)) ∙ sym (ones-step e)

@@ -5,7 +5,7 @@
 --   stopOf L u v         Euclid stops as soon as a remainder is at most so long: stop-le
 --   distance-pos         the distance is not 0
 --   distance-le          w is at least the distance where L + u ≤ w u + v
---   room, fits           of w places within the radius, the evaluator is shorter than the stop, and the locator fits beside it
+--   rows-fit, fits           of w places within the radius, the evaluator is shorter than the stop, and the locator fits beside it
 use mathlib.Core.Path.{_≡_, ap, _∙_}
 use mathlib.Core.Logic.{_⊎_, inl, inr}
 use Prim.Native.Nat.{ℕ, zero, suc, _+_, _-_, _*_, _/_, _≤_, _<_}
@@ -62,9 +62,9 @@ module _ (L u v : ℕ) (less : v < u) where
     unfolding t
     times = mul-le-mul-right u h
 
-    pub room : 0 < w → w * u + v < stopOf L u v + u
+    pub rows-fit : 0 < w → w * u + v < stopOf L u v + u
     unfolding stopOf t
-    room p =
+    rows-fit p =
         let q : t * u + t * u + v < L + u = inside (omega arith) in
         let s : w * u ≤ t * u = times in
         omega arith

@@ -25,7 +25,7 @@ use Rattle.field.proofs.Value.{coef, coef-0}
 use Rattle.cyclic.proofs.Places.{coefficient-zero, same-places, count}
 use Rattle.cyclic.proofs.Lift.{lift, lift-add, lift-at, coef-null}
 use Rattle.cyclic.proofs.CyclicCode.{Code, Vanishes}
-use Rattle.cyclic.proofs.Generator.{Codeword, codeword, codeword-add}
+use Rattle.cyclic.proofs.Generator.{InCode, codeword, codeword-add}
 use Rattle.cyclic.proofs.Radius.{distanceOf, radiusOf, stopOf, distance-le}
 use Rattle.cyclic.proofs.Errors.{Place, all, all-in, all-distinct, sumL-add, support-count}
 
@@ -86,10 +86,10 @@ module _ {A : Type 0} {R : Ring A} {n : ℕ} {C : Code R n} (S : Syndromes C) wh
           ap (λ x. x * Y i * at i) (ap (λ p. p (i .0)) (lift-add R a b) ∙ add-at R _ _ (i .0))
           ∙ spread (lift R a (i .0)) (lift R b (i .0)) (Y i) (at i)
 
-  pub syndrome-codeword : (c : ℕ) → c < 2 ^ n → Codeword C c → (j : ℕ) → j < L → syndrome c j ≡ 𝟘
+  pub syndrome-codeword : (c : ℕ) → c < 2 ^ n → InCode C c → (j : ℕ) → j < L → syndrome c j ≡ 𝟘
   syndrome-codeword c h w = S .quiet c h (codeword C c .0 w)
 
-  pub weight-bound : (c : ℕ) → c < 2 ^ n → Codeword C c → (c ≡ 0) ⊎ (distance ≤ count n c)
+  pub weight-bound : (c : ℕ) → c < 2 ^ n → InCode C c → (c ≡ 0) ⊎ (distance ≤ count n c)
   weight-bound c h w = go (weight R (C .K) alternant (weights c) (all-distinct n) L (syndrome-codeword c h w))
     where
       go : All (λ i. weights c i ≡ 𝟘) (all n)
@@ -105,7 +105,7 @@ module _ {A : Type 0} {R : Ring A} {n : ℕ} {C : Code R n} (S : Syndromes C) wh
           (subst (λ (k : ℕ). L +ℕ alternant .u ≤ k *ℕ alternant .u +ℕ alternant .v)
           (support-count R (C .K) (weights c) c (weights-zero c)) q))
 
-  pub distance-bound : (c d : ℕ) → c < 2 ^ n → d < 2 ^ n → Codeword C c → Codeword C d → c ≢ d → distance ≤ count n (c ⊕ d)
+  pub distance-bound : (c d : ℕ) → c < 2 ^ n → d < 2 ^ n → InCode C c → InCode C d → c ≢ d → distance ≤ count n (c ⊕ d)
   distance-bound c d hc hd wc wd ne =
       elim (weight-bound (c ⊕ d) (⊕-lt n c d hc hd) (codeword-add C c d wc wd)) [
         | inl e ↦ absurd (ne (⊕-eq e))

@@ -9,13 +9,13 @@
 --   listing-holds                       the listing of sheet H, byte for byte
 -- Where document 01 abbreviates an example of a refusal, the sheet is H with what is said changed.
 use mathlib.Core.Path.{_≡_, refl}
-use mathlib.Core.List.{List, [], _∷_, _++_, map, flatMap}
+use mathlib.Core.List.{List, [], _∷_, _++_, flatMap}
 use Prim.Native.Nat.{ℕ, zero, suc, _+_}
 use lib.ListN.{length, getD, set, replicate}
 use Rattle.field.specs.Search.{leastFrom, least, upTo, keep, some, every, total}
 use Rattle.field.specs.Mask.{_⊕_, size, productBelow, clmul, divideDown, remainder}
 use Rattle.field.specs.Field.{masks, mask, fieldMultiply, fieldPower, α, orderOfTwo}
-use Rattle.masks.specs.Factor.{coprime, degree, divides, common, period, terms}
+use Rattle.binary.specs.Factor.{coprime, degree, divides, common, period, terms}
 use Rattle.document.specs.Answer.{Answer, firstOf, settle}
 use Rattle.document.specs.Layout.{wordWeight, messageWeight, bytesFor, place, maskOf, byteOf, bytesOf, spare}
 use Rattle.document.specs.Sheet.{statedLength, codeLength, representativeCount, representativesAt, certificateCount, zeroOf}

@@ -14,7 +14,7 @@ use lib.Dec.{leb}
 use borrow.Author.Tests.{le-leb, lt-leb}
 use Rattle.field.specs.Search.{upTo, every}
 use Rattle.field.proofs.Search.{least-is, least-unique, every-of, upTo-suc}
-use Rattle.masks.proofs.Coprime.{every-not}
+use Rattle.binary.proofs.Coprime.{every-not}
 use Rattle.document.specs.Answer.{Conditions, firstOf}
 use Rattle.document.specs.Certificate.{working}
 use Rattle.document.specs.Judge.{certificateConditions}

@@ -5,3 +5,7 @@ pub mod Cosets
 pub mod Chain
 pub mod Acceptance
 pub mod Settled
+pub mod Theory
+pub mod GeneratorIs
+pub mod Demand2
+pub mod Join

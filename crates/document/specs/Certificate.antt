@@ -6,12 +6,12 @@
 --   working count t           the first of the largest of t 0, t 1, .. below count
 use mathlib.Core.Bool.{Bool, not, _&&_, _||_}
 use mathlib.Core.List.{List}
-use Prim.Native.Nat.{ℕ, suc, _+_, _-_, _*_, _/_, _%_}
+use Prim.Native.Nat.{ℕ, _+_, _-_, _*_, _/_, _%_}
 use lib.Dec.{eqb, leb, ltb}
 use lib.ListN.{getD}
 use Rattle.field.specs.Search.{least, upTo, every}
 use Rattle.field.specs.Mask.{coefficient}
-use Rattle.masks.specs.Factor.{coprime, degree, common, period, terms}
+use Rattle.binary.specs.Factor.{coprime, degree, common, period, terms}
 use Rattle.document.specs.Sheet.{Certificate}
 use Rattle.document.specs.Coset.{inSet}
 

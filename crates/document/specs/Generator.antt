@@ -6,18 +6,20 @@
 --   generator n reps           the mask that its coefficients are
 --   valueAt s a c              the value of the mask c at the element a
 --   isCodeword m g c           c is a multiple of the generator g of degree m
+--   Codeword n reps c          c is a codeword of n places
 --   encodeMask m g message     the codeword of a message; messageOf m c: the message of a codeword
 --   differences n a b          in how many of n places two words differ
 --   nearest k m g n t r        the first message whose codeword differs from r in at most t places; 2^k if there is none
-use mathlib.Core.Bool.{Bool}
+use mathlib.Core.Path.{_≡_}
+use mathlib.Core.Bool.{Bool, true}
 use mathlib.Core.List.{List, [], _∷_, map}
-use Prim.Native.Nat.{ℕ, zero, suc, _+_, _-_, _*_, _/_, _^_}
+use Prim.Native.Nat.{ℕ, zero, suc, _+_, _-_, _*_, _/_, _^_, _<_}
 use lib.Dec.{eqb, leb}
 use lib.ListN.{length, getD}
 use Rattle.field.specs.Search.{least, total}
 use Rattle.field.specs.Mask.{_⊕_, coefficient, size, remainder}
 use Rattle.field.specs.Field.{fieldMultiply, fieldPower, orderOfTwo, α}
-use Rattle.document.specs.Coset.{definingSet}
+use Rattle.document.specs.Coset.{definingSet, dimension}
 
 -- coefficient by coefficient; the sum of elements is xor
 unfoldable pub addPoly : List ℕ → List ℕ → List ℕ
@@ -55,6 +57,10 @@ valueAt s a c = valueBelow s a (size c) c
 -- "A codeword is a word of n bits, place i the coefficient of x^i, that is a multiple of the generator." m is n - k.
 unfoldable pub isCodeword : ℕ → ℕ → ℕ → Bool
 isCodeword m g c = eqb (remainder m g c) 0
+
+pub record Codeword (n : ℕ) (reps : List ℕ) (c : ℕ) : Type 0 where
+  pub small : c < 2 ^ n
+  pub is : isCodeword (n - dimension n reps) (generator n reps) c ≡ true
 
 -- "Message bit i stands in place n - k + i. Places below n - k hold the remainder of x^(n-k)·m(x) by the generator."
 unfoldable pub encodeMask : ℕ → ℕ → ℕ → ℕ

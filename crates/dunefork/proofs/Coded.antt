@@ -27,9 +27,9 @@ use Rattle.document.specs.Entry.{encodeOf, readOf, wordOf, decodedWord, decodeO
 use Rattle.field.specs.Mask.{_⊕_}
 use Rattle.field.proofs.Xor.{digit-lt}
 use Rattle.cyclic.proofs.Places.{count, count-z, count-s}
-use Rattle.distance.proofs.Distance.{differences-are}
-use Rattle.weighing.proofs.Weighing.{number-pos}
-use Rattle.members.proofs.Cards.{card-size}
+use Rattle.certificate.proofs.Distance.{differences-are}
+use Rattle.judging.proofs.Weighing.{number-pos}
+use Rattle.listing.proofs.Cards.{card-size}
 use Rattle.dunefork.specs.Codes.{codeFor, codedAs}
 
 minus : (r : ℕ) → 0 < r → codeFor r [] ≡ negℤ (pos r)

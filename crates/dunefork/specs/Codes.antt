@@ -1,6 +1,6 @@
 -- Answers as C has them.
 --
---   codeOf a       one number for an answer: what is returned, or minus the refusal's number
+--   returnCode a       one number for an answer: what is returned, or minus the refusal's number
 --   codedAs p      the same beside the bytes of the lent buffer
 use mathlib.Core.List.{List}
 use Prim.Native.Nat.{ℕ, zero, suc}
@@ -13,8 +13,8 @@ unfoldable pub codeFor : ℕ → List ℕ → ℤ
 codeFor zero values = pos (getD values 0 0)
 codeFor (suc r) values = negℤ (pos (suc r))
 
-abbrev pub codeOf : Answer → ℤ
-codeOf a = codeFor (a .number) (a .values)
+abbrev pub returnCode : Answer → ℤ
+returnCode a = codeFor (a .number) (a .values)
 
 abbrev pub codedAs : Answer × List ℕ → ℤ × List ℕ
-codedAs p = (codeOf (p .0), p .1)
+codedAs p = (returnCode (p .0), p .1)

@@ -1,9 +1,11 @@
 // The C interface: one entry for each operation, with the answer as one number. include/dunefork.h says it for C.
+pub mod codes;
+
 ghost use mathlib.Core.Path.{_≡_};
 ghost use Rattle.document.specs.Entry.{encodeOf, readOf, decodeOf};
 ghost use Rattle.document.specs.Card.{cardOf};
 ghost use Rattle.dunefork.specs.Codes.{codedAs};
-use codes::codes::refusal_code;
+use crate::codes::refusal_code;
 use document::types::Reply;
 
 // The codeword of a message into out.

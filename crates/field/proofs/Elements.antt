@@ -8,25 +8,25 @@
 --   isField          every nonzero element has an inverse, its power 2^s - 2
 --   root d n         α; root-order: it has order exactly n, for every n that divides 2^s - 1
 -- That squaring is additive, and that a² = a only for 0 and 1, are square-add and idempotent of the algebra at this field.
-use mathlib.Core.Path.{_≡_, refl, sym, ap, ap₂, _∙_, subst}
+use mathlib.Core.Path.{_≡_, refl, sym, ap, _∙_, subst}
 use mathlib.Core.Logic.{_≢_}
 use mathlib.Core.HLevel.{hedberg}
-use Prim.Native.Nat.{ℕ, zero, suc, pred, _+_, _-_, _*_, _/_, _^_, _≤_, _<_, _∣_}
+use Prim.Native.Nat.{ℕ, zero, suc, pred, _+_, _-_, _*_, _/_, _^_, _<_, _∣_}
 use native.Mathlib.Nat.{zero-mul, div-mul-cancel, pos-of-dvd-of-pos, mul-comm, pos-of-ne-zero, suc-ne-zero}
 use native.Mathlib.Decide.{Fin-discrete, Fin·val-path}
 use native.Mathlib.Omega.{arith}
 use lib.Pow.{pow-pos, pow-mono}
-use Rattle.algebra.proofs.Ring.{Ring, zero-mul as 𝟘-mul, mul-comm as ⊠-comm}
+use Rattle.algebra.proofs.Ring.{Ring, zero-mul as 𝟘-mul}
 use Rattle.algebra.proofs.Power.{pow, pow-z, pow-s, pow-suc, pow-add, pow-mul, one-pow, Order, pow-inj, order-pow}
 use Rattle.algebra.proofs.Field.{Field}
 use Rattle.field.specs.Mask.{_⊕_, clmul, remainder}
 use Rattle.field.specs.Field.{mask, Degree, ω, fieldMultiply}
 use Rattle.field.proofs.Xor.{⊕-zero-r, ⊕-self, ⊕-comm, ⊕-assoc, ⊕-lt}
-use Rattle.field.proofs.Product.{clmul-add-r, clmul-dbl-r, clmul-one-r, clmul-comm, clmul-assoc}
+use Rattle.field.proofs.MaskProduct.{clmul-add-r, clmul-dbl-r, clmul-one-r, clmul-comm, clmul-assoc}
 use Rattle.field.proofs.Remainder.{xtime, remainder-lt, remainder-small, remainder-add, remainder-zero, remainder-dbl}
 use Rattle.field.proofs.Remainder.{remainder-mul-l, remainder-mul-r}
 use Rattle.field.proofs.Pigeonhole.{onto}
-use Rattle.field.proofs.Primitive.{xpow, Primitive, primitive, Degree-bounds}
+use Rattle.field.proofs.Primitive.{xpow, primitive, Degree-bounds}
 
 abbrev pub F : ℕ → Type 0
 F s = (a : ℕ) × (a < 2 ^ s)
@@ -143,9 +143,6 @@ module _ {s : ℕ} (d : Degree s) where
   pub el-value : {a : ℕ} → a < 2 ^ s → el a .0 ≡ a
   unfolding el
   el-value h = small h
-
-  pub el-of : (a : F s) → el (a .0) ≡ a
-  el-of a = F-eq s (el-value (a .1))
 
   pub el-inj : {a b : ℕ} → a < 2 ^ s → b < 2 ^ s → el a ≡ el b → a ≡ b
   el-inj h l e = sym (el-value h) ∙ ap (λ (x : F s). x .0) e ∙ el-value l

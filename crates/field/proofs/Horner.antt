@@ -6,13 +6,13 @@
 --   lin-ext          additive maps that take doubling to E and agree at 1 are equal
 --   horner-map       an additive map that takes D to E takes horner D to horner E
 use mathlib.Core.Path.{_≡_, refl, sym, ap, ap₂, _∙_}
-use Prim.Native.Nat.{ℕ, zero, suc, _+_, _*_, _/_, _%_, _^_, _≤_, _<_}
+use Prim.Native.Nat.{ℕ, zero, suc, _*_, _/_, _%_, _≤_}
 use native.Mathlib.Nat.{not-suc-le-zero, le-refl}
 use native.Mathlib.Decide.{le-ind}
 use lib.Arith.{bin-ind, half-le}
 use Rattle.field.specs.Mask.{_⊕_}
 use Rattle.field.proofs.Xor.{digit, digit-lt, ⊕-zero-l, ⊕-zero-r, ⊕-half, ⊕-odd, ⊕-split, ⊕-swap4, Add, add-0, dbl-half}
-use Rattle.field.proofs.Xor.{dbl-odd, dbl-add, sel, sel-xor}
+use Rattle.field.proofs.Xor.{dbl-odd, sel, sel-xor}
 
 -- the first argument bounds the digits to go
 hornerIn : (ℕ → ℕ) → ℕ → ℕ → ℕ → ℕ

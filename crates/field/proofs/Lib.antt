@@ -1,8 +1,9 @@
 -- Laws, in reading order: search, masks, the field of a degree, the order of two.
+-- Laws: the tables as they are filled, and what is read off them.
 pub mod Search
 pub mod Xor
 pub mod Horner
-pub mod Product
+pub mod MaskProduct
 pub mod Remainder
 pub mod Pigeonhole
 pub mod Primitive
@@ -11,3 +12,6 @@ pub mod Value
 pub mod Numbers
 pub mod Shifts
 pub mod OrderOfTwo
+pub mod Filling
+pub mod Products
+pub mod Exponents

@@ -10,21 +10,20 @@
 --   inverses-zero, inverses-of, inverses-by, inverse-is      0 has no inverse; every other element has one: its power 2^s - 2
 use mathlib.Core.Path.{_≡_, refl, sym, ap, ap₂, _∙_, subst}
 use mathlib.Core.Logic.{_≢_}
-use mathlib.Core.List.{List, [], _∷_}
-use Prim.Native.Nat.{ℕ, zero, suc, _+_, _-_, _*_, _/_, _^_, _≤_, _<_}
+use mathlib.Core.List.{[], _∷_}
+use Prim.Native.Nat.{ℕ, zero, suc, _+_, _-_, _/_, _^_, _<_}
 use native.Mathlib.Omega.{arith}
 use lib.Dec.{eqb}
-use lib.Pow.{pow-mono}
-use borrow.Author.Tests.{eqb-true, eqb-false, eq-eqb, ne-eqb}
-use Rattle.algebra.proofs.Ring.{Ring, mul-one, mul-comm, mul-assoc, mul-zero, zero-mul, one-mul}
-use Rattle.algebra.proofs.Power.{pow, pow-z, pow-s, pow-add, Order, pow-inj}
+use borrow.Author.Tests.{eqb-true, eq-eqb, ne-eqb}
+use Rattle.algebra.proofs.Ring.{mul-one, mul-comm, mul-assoc, mul-zero}
+use Rattle.algebra.proofs.Power.{pow, pow-z, pow-s, pow-add, pow-inj}
 use Rattle.algebra.proofs.Field.{pow-ne}
-use Rattle.field.specs.Mask.{clmul, remainder}
+use Rattle.field.specs.Mask.{clmul}
 use Rattle.field.specs.Field.{mask, Degree, ω, fieldMultiply, fieldPower, α, logarithm, inverses}
 use Rattle.field.proofs.Search.{Least, least-is, least-unique, keep-one, keep-none}
 use Rattle.field.proofs.Remainder.{remainder-lt}
 use Rattle.field.proofs.Primitive.{primitive, Degree-bounds}
-use Rattle.field.proofs.Elements.{F, F-eq, GF, GF-zero, GF-one, el, el-value, el-of, el-inj, el-zero, el-one, el-mul, gen}
+use Rattle.field.proofs.Elements.{GF, el, el-inj, el-zero, el-one, el-mul, gen}
 use Rattle.field.proofs.Elements.{gen-order, log, mul-inverse, isField, root}
 
 pub power-z : (s a : ℕ) → fieldPower s a 0 ≡ 1

@@ -5,9 +5,9 @@
 --   one-iff         2^k leaves 1 exactly when n divides 2^k - 1
 --   order-pos, order-divides, order-mod, order-least, order-lt      n divides 2^s - 1 for s = orderOfTwo n, for no smaller s above 0, and s < n
 --   count-start, count-on, count-more, count-lt, count-end, twice-low, twice-high      the count of the code
-use mathlib.Core.Path.{_≡_, refl, sym, ap, ap₂, _∙_, subst}
+use mathlib.Core.Path.{_≡_, refl, sym, ap, _∙_, subst}
 use mathlib.Core.Logic.{_≢_, _↔_}
-use mathlib.Core.Bool.{Bool, true}
+use mathlib.Core.Bool.{Bool}
 use Prim.Native.Nat.{ℕ, zero, suc, pred, _+_, _-_, _*_, _/_, _%_, _^_, _≤_, _<_, _∣_}
 use native.Mathlib.Nat.{mod-lt, mod-eq-of-lt, mod-add-div, add-mul, add-mul-mod-self-left, mul-assoc, mul-comm}
 use native.Mathlib.Nat.{mul-add-mod-self-left, mul-mod-right, div-add-mod, dvd-of-mod-eq-zero, pow-suc, mod-eq-sub-mod, zero-mod}
@@ -20,7 +20,7 @@ use lib.Pow.{pow-pos}
 use borrow.Author.Tests.{eqb-true, eqb-false, eq-eqb}
 use Rattle.field.specs.Search.{least}
 use Rattle.field.specs.Field.{OddLength, orderOfTwo}
-use Rattle.field.proofs.Search.{Least, least-is, least-most}
+use Rattle.field.proofs.Search.{least-is, least-most}
 use Rattle.field.proofs.Pigeonhole.{collision}
 
 pub mul-mod : (a b n : ℕ) → a % n * b % n ≡ a * b % n

@@ -4,22 +4,22 @@
 --   xtime s p a           x a modulo p, for a below 2^s: xtime-add, xtime-lt, xtime-small
 --   deg-of                the degree by bounds
 --   quotient              a = p q + remainder; remainder-lt: which is below 2^s; remainder-unique: and nothing else is
---   remainder-horner      by Horner's rule; remainder-clmul: a product's, acting on the second factor's
+--   remainder-clmul       a product's, acting on the second factor's
 --   remainder-add, remainder-zero, remainder-small, remainder-dbl, remainder-multiple, remainder-mul-l, remainder-mul-r
-use mathlib.Core.Path.{_≡_, refl, sym, ap, ap₂, _∙_, subst}
+use mathlib.Core.Path.{_≡_, sym, ap, ap₂, _∙_, subst}
 use Prim.Native.Nat.{ℕ, zero, suc, _+_, _*_, _/_, _%_, _^_, _≤_, _<_}
-use native.Mathlib.Nat.{div-eq-of-lt-le, div-lt-iff-lt-mul, div-eq-of-lt, mod-eq-of-lt, zero-div, one-mul, mul-assoc, le-refl}
+use native.Mathlib.Nat.{div-eq-of-lt-le, div-lt-iff-lt-mul, div-eq-of-lt, mod-eq-of-lt, zero-div, one-mul, le-refl}
 use native.Mathlib.Nat.{lt-of-lt-of-le, not-suc-le-zero, pow-succ', div-div-eq-div-mul, div-mul-le-self, lt-of-le-of-lt}
-use native.Mathlib.Nat.{div-le-self, add-suc, mul-div-cancel}
+use native.Mathlib.Nat.{div-le-self, add-suc}
 use native.Mathlib.Omega.{arith}
 use lib.Arith.{bin-ind}
-use lib.Pow.{pow-pos, pow-mono, pow-add, shr-shr, shl-shr}
+use lib.Pow.{pow-pos, pow-mono, shr-shr, shl-shr}
 use Rattle.field.specs.Mask.{_⊕_, coefficient, size, clmul, divideDown, remainder}
-use Rattle.field.proofs.Xor.{two-pos, digit, digit-lt, ⊕-zero-l, ⊕-zero-r, ⊕-self, ⊕-norm, ⊕-half, ⊕-odd, ⊕-shr, ⊕-lt}
+use Rattle.field.proofs.Xor.{two-pos, digit-lt, ⊕-zero-l, ⊕-zero-r, ⊕-self, ⊕-norm, ⊕-odd, ⊕-shr}
 use Rattle.field.proofs.Xor.{⊕-split, ⊕-swap4, Add, add-0, dbl-half, dbl-add, sel, sel-xor, sel-map, sel-one}
-use Rattle.field.proofs.Horner.{horner, horner-step, horner-add, horner-dbl, horner-1, horner-map, horner-vec}
-use Rattle.field.proofs.Product.{size-lt, dbl, digit-mul, clmul-horner, clmul-add-r, clmul-dbl-r, clmul-one-r, clmul-comm}
-use Rattle.field.proofs.Product.{clmul-zero-r, clmul-pow}
+use Rattle.field.proofs.Horner.{horner, horner-step, horner-add, horner-dbl, horner-map, horner-vec}
+use Rattle.field.proofs.MaskProduct.{size-lt, dbl, digit-mul, clmul-horner, clmul-add-r, clmul-comm}
+use Rattle.field.proofs.MaskProduct.{clmul-zero-r, clmul-pow}
 
 -- one shift, and p taken off where the coefficient of x^s came up
 unfoldable pub xtime : ℕ → ℕ → ℕ → ℕ
@@ -195,10 +195,6 @@ module _ (s p : ℕ) (pos : 0 < s) (deg : p / 2 ^ s ≡ 1) where
 
   pub remainder-unique : (a q r : ℕ) → r < 2 ^ s → a ≡ clmul p q ⊕ r → r ≡ remainder s p a
   remainder-unique a q r h e = rem-unique a q r h e ∙ sym (is-rem a)
-
-  pub remainder-horner : (a : ℕ) → remainder s p a ≡ horner (xtime s p) a 1
-  unfolding rem
-  remainder-horner a = is-rem a
 
   pub remainder-add : Add (remainder s p)
   remainder-add a b = simp is-rem (rem-add s p a b)

@@ -3,29 +3,30 @@
 --   double-set, double-clear      ω a by one shift, with and without the mask
 --   multiply-start, multiply-set, multiply-clear, multiply-end      the product by the coefficients of a from i on
 --   power-halves, power-start, power-turn, power-end      a power by squares, r x^e turn by turn
---   inverse-absent, inverse-present, quotient-absent, quotient-present      answers of inversion and division
+--   inverse-absent, quotient-absent, quotient-present      answers of inversion and division
+--   no-quotient, quotient-back    a quotient is absent only with the inverse; it times the divisor is the dividend
 --   factor-set, factor-clear      its factor for one digit of the exponent
 use mathlib.Core.Path.{_≡_, refl, sym, ap, ap₂, _∙_, subst}
 use mathlib.Core.Logic.{_≢_}
 use mathlib.Core.List.{List, [], _∷_, map}
-use Prim.Native.Nat.{ℕ, zero, suc, _+_, _-_, _*_, _/_, _%_, _^_, _≤_, _<_}
+use Prim.Native.Nat.{ℕ, suc, _+_, _-_, _*_, _/_, _%_, _^_, _<_}
 use native.Mathlib.Nat.{div-eq-of-lt, div-one}
 use native.Mathlib.Decide.{ℕ-discrete}
 use native.Mathlib.Omega.{arith}
 use lib.Bits.{bitXor}
+use lib.ListN.{length, getD}
 use lib.Pow.{shr-shr}
-use Rattle.algebra.proofs.Ring.{Ring}
 use Rattle.algebra.proofs.Power.{pow, pow-add, mul-pow}
-use Rattle.field.specs.Mask.{_⊕_, clmul, remainder}
+use Rattle.field.specs.Mask.{_⊕_, remainder}
 use Rattle.field.specs.Field.{mask, Degree, ω, fieldMultiply, fieldPower, inverses, quotients}
-use Rattle.field.proofs.Xor.{digit-lt, ⊕-zero-r, ⊕-lt, sel}
+use Rattle.field.proofs.Xor.{digit-lt, ⊕-zero-r, sel}
 use Rattle.field.proofs.Horner.{horner, horner-step}
-use Rattle.field.proofs.Product.{clmul-two}
+use Rattle.field.proofs.MaskProduct.{clmul-two}
 use Rattle.field.proofs.Remainder.{xtime, xtime-add, remainder-small, remainder-dbl, remainder-clmul}
 use Rattle.field.proofs.Primitive.{primitive}
 use Rattle.field.proofs.Elements.{GF, el, el-mul, el-inj}
-use Rattle.field.proofs.Numbers.{multiply-lt, multiply-comm, multiply-assoc, multiply-one, zero-multiply, power-lt}
-use Rattle.field.proofs.Numbers.{power-add, el-power, power-s, power-z, inverses-zero, inverses-of}
+use Rattle.field.proofs.Numbers.{multiply-lt, multiply-comm, multiply-assoc, multiply-one, zero-multiply, product-lt, power-lt}
+use Rattle.field.proofs.Numbers.{power-add, el-power, power-s, power-z, inverses-zero, inverses-of, inverse-is}
 
 sel-clear : (x b : ℕ) → x < 2 → x ≢ 1 → sel x b ≡ 0
 sel-clear x b h k = let e : x ≡ 0 = omega arith in ap (λ (y : ℕ). sel y b) e
@@ -131,11 +132,6 @@ module _ {s : ℕ} (d : Degree s) where
   pub inverse-absent : (a : ℕ) → a ≡ 0 → [] ≡ inverses s a
   inverse-absent a e = sym (ap (inverses s) e ∙ inverses-zero d)
 
-  pub inverse-present : (a x n : ℕ) → a < 2 ^ s → a ≢ 0 → n ≡ 2 ^ s - 1 → x ≡ fieldPower s a (n - 1) → x ∷ [] ≡ inverses s a
-  inverse-present a x n h k o e =
-      let l : n - 1 ≡ 2 ^ s - 2 = omega arith in
-      ap (λ (y : ℕ). y ∷ []) (e ∙ ap (fieldPower s a) l) ∙ sym (inverses-of d a h k)
-
 pub quotient-absent : (s a b : ℕ) → [] ≡ inverses s b → [] ≡ quotients s a b
 unfolding quotients
 quotient-absent s a b e = ap (map (fieldMultiply s a)) e
@@ -143,6 +139,30 @@ quotient-absent s a b e = ap (map (fieldMultiply s a)) e
 pub quotient-present : (s a b x y : ℕ) → x ∷ [] ≡ inverses s b → y ≡ fieldMultiply s a x → y ∷ [] ≡ quotients s a b
 unfolding quotients
 quotient-present s a b x y e f = ap (λ (z : ℕ). z ∷ []) f ∙ ap (map (fieldMultiply s a)) e
+
+pub no-quotient : (s a b : ℕ) → [] ≡ quotients s a b → [] ≡ inverses s b
+unfolding quotients
+no-quotient s a b e = go (inverses s b) e
+  where
+    go : (l : List ℕ) → [] ≡ map (fieldMultiply s a) l → [] ≡ l
+    go [] h = refl
+    go (x ∷ l) h = let z : _≡_ {A = ℕ} 0 (suc (length (map (fieldMultiply s a) l))) = ap length h in absurd (omega arith)
+
+pub quotient-back : {s : ℕ} (d : Degree s) (a b x : ℕ) → b < 2 ^ s → b ≢ 0 → a < 2 ^ s → x ∷ [] ≡ quotients s a b
+    → (x < 2 ^ s) × (fieldMultiply s x b ≡ a)
+unfolding quotients
+quotient-back {s} d a b x h n l e = (subst (λ (y : ℕ). y < 2 ^ s) (sym x-is) (product-lt d a inv refl), back)
+  where
+    inv : ℕ
+    inv = fieldPower s b (2 ^ s - 2)
+
+    x-is : x ≡ fieldMultiply s a inv
+    x-is = ap (λ (l : List ℕ). getD l 0 0) (e ∙ ap (map (fieldMultiply s a)) (inverses-of d b h n))
+
+    back : fieldMultiply s x b ≡ a
+    back =
+        ap (λ (y : ℕ). fieldMultiply s y b) x-is ∙ multiply-assoc d a inv b
+        ∙ ap (fieldMultiply s a) (multiply-comm d inv b ∙ inverse-is d b h n) ∙ multiply-one d a l
 
 pub inverse-lt : {s : ℕ} (d : Degree s) (b x : ℕ) → b < 2 ^ s → x ∷ [] ≡ inverses s b → x < 2 ^ s
 inverse-lt {s} d b x h e = go (ℕ-discrete b 0)

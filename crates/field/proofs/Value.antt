@@ -6,13 +6,13 @@
 --   value-add, value-mul      of sums and products of masks
 --   ext               additive maps of masks into the ring that take doubling to E and agree at 0 and 1 are equal
 use mathlib.Core.Path.{_≡_, refl, sym, ap, ap₂, _∙_}
-use Prim.Native.Nat.{ℕ, zero, suc, _+_, _*_, _/_, _%_, _^_, _≤_, _<_}
+use Prim.Native.Nat.{ℕ, zero, suc, _*_, _/_, _%_, _≤_, _<_}
 use native.Mathlib.Nat.{not-suc-le-zero, le-refl}
 use native.Mathlib.Decide.{le-ind}
 use lib.Arith.{bin-ind, half-le}
 use Rattle.field.specs.Mask.{_⊕_, clmul}
 use Rattle.field.proofs.Xor.{digit, digit-lt, ⊕-zero-l, ⊕-half, ⊕-odd, ⊕-split, dbl-half, dbl-odd}
-use Rattle.field.proofs.Product.{clmul-add-l, clmul-dbl-l, clmul-one-l, clmul-zero-l}
+use Rattle.field.proofs.MaskProduct.{clmul-add-l, clmul-dbl-l, clmul-one-l, clmul-zero-l}
 use Rattle.algebra.proofs.Ring.{Ring, ring, zero-add, one-mul, add-mul, zero-mul as 𝟘-mul}
 
 module _ {A : Type 0} (R : Ring A) where

@@ -7,8 +7,8 @@
 --   digit, digit-lt        a fact of a coefficient is a fact of 0 and of 1
 --   Add f         f is additive; dbl-add: doubling, which is multiplication by x, is
 --   sel x b       b where the coefficient x is 1, else 0
-use mathlib.Core.Path.{_≡_, refl, sym, ap, ap₂, _∙_, subst}
-use Prim.Native.Nat.{ℕ, zero, suc, _+_, _*_, _/_, _%_, _^_, _≤_, _<_}
+use mathlib.Core.Path.{_≡_, refl, sym, ap, ap₂, _∙_}
+use Prim.Native.Nat.{ℕ, zero, suc, _+_, _*_, _/_, _%_, _^_, _<_}
 use native.Mathlib.Nat.{mod-lt, zero-lt-suc, div-add-mod', not-suc-le-zero, le-of-suc-le-suc, mul-div-cancel, mul-mod-left, div-one}
 use native.Mathlib.Numerals.{one-add}
 use lib.Pow.{shr-shr}
@@ -126,10 +126,6 @@ sel-xor b =
 pub sel-map : (f : ℕ → ℕ) → f 0 ≡ 0 → (x b : ℕ) → f (sel x b) ≡ sel x (f b)
 sel-map f h zero b = h
 sel-map f h (suc x) b = refl
-
-pub sel-add : (x : ℕ) → Add (sel x)
-sel-add zero a b = sym (⊕-self 0)
-sel-add (suc x) a b = refl
 
 pub sel-one : (x : ℕ) → x < 2 → sel x 1 ≡ x
 sel-one = digit (λ x. sel x 1 ≡ x) refl refl

@@ -1,3 +1,4 @@
 pub mod Search
 pub mod Mask
 pub mod Field
+pub mod Tables

@@ -1,6 +1,6 @@
 -- What the calls of the field's code ask for.
 --
---   room             the arrays are long enough for the tables of every degree
+--   tables-fit             the arrays are long enough for the tables of every degree
 --   order-odd        2^s - 1 is an odd length
 use mathlib.Core.Path.{_≡_}
 use mathlib.Core.List.{List}
@@ -9,11 +9,11 @@ use native.Mathlib.Nat.{pow-suc}
 use native.Mathlib.Omega.{arith}
 use lib.ListN.{length}
 use Rattle.field.specs.Field.{Degree, OddLength}
-use Rattle.tables.specs.Tables.{Room}
+use Rattle.field.specs.Tables.{Fillable}
 use Rattle.field.proofs.Primitive.{Degree-bounds}
 
-pub room : {s : ℕ} {e g : List ℕ} → Degree s → 20475 ≤ length e → 4096 ≤ length g → Room s e g
-room {s} d h k =
+pub tables-fit : {s : ℕ} {e g : List ℕ} → Degree s → 20475 ≤ length e → 4096 ≤ length g → Fillable s e g
+tables-fit {s} d h k =
     let b : 2 ^ s ≤ 4096 = Degree-bounds d .1 in record { degree = d; e-long = omega arith; g-long = omega arith }
 
 pub order-odd : {s n : ℕ} → Degree s → n ≡ 2 ^ s - 1 → OddLength n

@@ -6,8 +6,8 @@ use crate::elements;
 use crate::products;
 use crate::products::Sums;
 use crate::walk;
-use arithmetic::product::mask;
-use degree::order::order_of_two;
+use field::order::order_of_two;
+use field::product::mask;
 use libc::STDOUT_FILENO;
 
 fn number(label: &[u8], n: u64) {
@@ -27,13 +27,13 @@ fn end() {
 fn product_sums(s: usize) -> Sums
     requires { ⌜ Degree s ⌝ }
 {
-    let mut e = [0u16; 20475];
-    let mut g = [0u16; 4096];
-    tables::fill::fill(s, &mut e, &mut g);
+    let mut powers = [0u16; 20475];
+    let mut logs = [0u16; 4096];
+    field::tables::fill(s, &mut powers, &mut logs);
     if s <= 8 {
-        products::all(s, &e, &g)
+        products::all(s, &powers, &logs)
     } else {
-        products::sample(s, &e, &g)
+        products::sample(s, &powers, &logs)
     }
 }
 
@@ -51,17 +51,19 @@ pub fn product_line(s: usize)
 struct TableSums {
     powers: u64,
     logs: u64,
+    inverses: u64,
 }
 
 fn table_sums(s: usize) -> TableSums
     requires { ⌜ Degree s ⌝ }
 {
-    let mut e = [0u16; 20475];
-    let mut g = [0u16; 4096];
-    tables::fill::fill(s, &mut e, &mut g);
+    let mut powers = [0u16; 20475];
+    let mut logs = [0u16; 4096];
+    field::tables::fill(s, &mut powers, &mut logs);
     TableSums {
-        powers: elements::powers(s, &e),
-        logs: elements::logs(s, &e, &g),
+        powers: elements::powers(s, &powers),
+        logs: elements::logs(s, &powers, &logs),
+        inverses: elements::inverses(s, &powers, &logs),
     }
 }
 
@@ -72,7 +74,7 @@ pub fn element_line(s: usize)
     begin(s);
     number(b" powers ", sums.powers);
     number(b" logs ", sums.logs);
-    number(b" inverses ", elements::inverses(s));
+    number(b" inverses ", sums.inverses);
     number(b" order ", elements::order(s));
     end();
 }

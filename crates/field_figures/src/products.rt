@@ -2,8 +2,8 @@
 // those of a sample.
 ghost use Prim.Native.Nat.{_^_, _<_};
 ghost use Rattle.field.specs.Field.{Degree};
-ghost use Rattle.tables.specs.Tables.{Tables};
-ghost use Rattle.field_figures.specs.Sums.{Below};
+ghost use Rattle.field.specs.Tables.{Tables};
+ghost use Rattle.field_figures.specs.Sums.{BelowModulus};
 use crate::checksum::add;
 use crate::checksum::size;
 
@@ -12,34 +12,34 @@ pub struct Sums {
     pub tables: u64,
 }
 
-fn with_product(s: usize, a: u16, b: u16, h: Sums, e: &[u16], g: &[u16]) -> Sums
-    requires { ⌜ Tables s (now e) (now g) × (a < 2 ^ s) × (b < 2 ^ s) × Below h ⌝ }
-    ensures { λ r. ⌜ Below r ⌝ }
+fn with_product(s: usize, a: u16, b: u16, h: Sums, powers: &[u16], logs: &[u16]) -> Sums
+    requires { ⌜ Tables s (now powers) (now logs) × (a < 2 ^ s) × (b < 2 ^ s) × BelowModulus h ⌝ }
+    ensures { λ r. ⌜ BelowModulus r ⌝ }
 {
     Sums {
-        shifts: add(h.shifts, arithmetic::product::multiply(s, a, b)),
-        tables: add(h.tables, logarithm::product::multiply(s, a, b, e, g)),
+        shifts: add(h.shifts, field::product::multiply(s, a, b)),
+        tables: add(h.tables, field::logarithm::multiply(s, a, b, powers, logs)),
     }
 }
 
 // The products of a with every element, rising.
-fn row(s: usize, a: u16, h: Sums, e: &[u16], g: &[u16]) -> Sums
-    requires { ⌜ Tables s (now e) (now g) × (a < 2 ^ s) × Below h ⌝ }
-    ensures { λ r. ⌜ Below r ⌝ }
+fn row(s: usize, a: u16, h: Sums, powers: &[u16], logs: &[u16]) -> Sums
+    requires { ⌜ Tables s (now powers) (now logs) × (a < 2 ^ s) × BelowModulus h ⌝ }
+    ensures { λ r. ⌜ BelowModulus r ⌝ }
 {
     let end = size(s);
     let mut sums = h;
     let mut b = 0u16;
     while b < end {
-        sums = with_product(s, a, b, sums, e, g);
+        sums = with_product(s, a, b, sums, powers, logs);
         b = b + 1;
     }
     sums
 }
 
-pub fn all(s: usize, e: &[u16], g: &[u16]) -> Sums
-    requires { ⌜ Tables s (now e) (now g) ⌝ }
-    ensures { λ r. ⌜ Below r ⌝ }
+pub fn all(s: usize, powers: &[u16], logs: &[u16]) -> Sums
+    requires { ⌜ Tables s (now powers) (now logs) ⌝ }
+    ensures { λ r. ⌜ BelowModulus r ⌝ }
 {
     let end = size(s);
     let mut sums = Sums {
@@ -48,7 +48,7 @@ pub fn all(s: usize, e: &[u16], g: &[u16]) -> Sums
     };
     let mut a = 0u16;
     while a < end {
-        sums = row(s, a, sums, e, g);
+        sums = row(s, a, sums, powers, logs);
         a = a + 1;
     }
     sums
@@ -71,9 +71,9 @@ fn element(s: usize, x: u64) -> u16
 }
 
 // 4,096 products: a from one state, b from the next, and so on.
-pub fn sample(s: usize, e: &[u16], g: &[u16]) -> Sums
-    requires { ⌜ Tables s (now e) (now g) ⌝ }
-    ensures { λ r. ⌜ Below r ⌝ }
+pub fn sample(s: usize, powers: &[u16], logs: &[u16]) -> Sums
+    requires { ⌜ Tables s (now powers) (now logs) ⌝ }
+    ensures { λ r. ⌜ BelowModulus r ⌝ }
 {
     let mut sums = Sums {
         shifts: 0,
@@ -84,7 +84,7 @@ pub fn sample(s: usize, e: &[u16], g: &[u16]) -> Sums
     while i < 4096 {
         let y = next(x);
         x = next(y);
-        sums = with_product(s, element(s, y), element(s, x), sums, e, g);
+        sums = with_product(s, element(s, y), element(s, x), sums, powers, logs);
         i = i + 1;
     }
     sums

@@ -1,28 +1,29 @@
-// The generator's factors: polynomials over the field as slices of coefficients, low first, 0 above the degree.
+// The generator: the factors of the cosets, polynomials over the field with coefficients 0 and 1, multiplied over two elements.
+// Slices have the low coefficient first, and 0 above the degree.
 ghost use mathlib.Core.Path.{_≡_};
 ghost use mathlib.Core.List.{[]};
 ghost use Prim.Native.Nat.{_+_, _≤_, _<_};
 ghost use lib.ListN.{length};
 ghost use Rattle.field.specs.Field.{α};
-ghost use Rattle.factors.specs.Coefficients.{Walking, Unit, Walked};
-ghost use Rattle.factors.specs.Building.{Rising, Lengths, Building, Joined};
-use arithmetic::product::order;
-use bits::bits::hand_over;
-use factors::coset::coset_factor;
-use quotient::power::power;
+ghost use Rattle.generator.specs.Coefficients.{CosetWalk, Unit, CosetWalked};
+ghost use Rattle.generator.specs.Building.{Rising, Lengths, Building, Joined};
+use crate::coset::coset_factor;
+use binary::bits::hand_over;
+use field::power::power;
+use field::product::order;
 
 // The polynomial 1.
-fn one(p: &mut [u16])
-    requires { ⌜ 0 < length (now p) ⌝ }
-    ensures { λ _. ⌜ Unit (now (p .exit)) ⌝ }
+fn one(factor: &mut [u16])
+    requires { ⌜ 0 < length (now factor) ⌝ }
+    ensures { λ _. ⌜ Unit (now (factor .exit)) ⌝ }
 {
-    let end = p.len();
+    let end = factor.len();
     let mut i: usize = 0;
     while i < end {
-        p[i] = 0;
+        factor[i] = 0;
         i = i + 1;
     }
-    p[0] = 1;
+    factor[0] = 1;
 }
 
 // α of the length n.
@@ -33,56 +34,56 @@ fn alpha(n: usize, s: usize) -> u16
     power(s, 2, order(s) / n)
 }
 
-// The factor of the coset of r, whatever p held; its degree.
-fn factor(p: &mut [u16], n: usize, s: usize, r: usize, a: u16) -> usize
-    requires { ⌜ Walking n s r a × (12 < length (now p)) ⌝ }
-    ensures { λ m. ⌜ Walked n s r m (now (p .exit)) ⌝ }
+// The factor of the coset of r, whatever the slice held; its degree.
+fn factor(coefficients: &mut [u16], n: usize, s: usize, r: usize, a: u16) -> usize
+    requires { ⌜ CosetWalk n s r a × (12 < length (now coefficients)) ⌝ }
+    ensures { λ m. ⌜ CosetWalked n s r m (now (coefficients .exit)) ⌝ }
 {
-    one(p);
-    coset_factor(p, n, s, r, a)
+    one(coefficients);
+    coset_factor(coefficients, n, s, r, a)
 }
 
-// g, of degree d, times the factor of the coset of r; its degree. p is room, and w holds 0 before and after.
+// The product so far, of degree d, times the factor of the coset of r; its degree. The bits hold 0 before and after.
 fn times_coset(
-    g: &mut [u8],
+    product: &mut [u8],
     d: usize,
     n: usize,
     s: usize,
     r: usize,
     a: u16,
-    p: &mut [u16],
-    w: &mut [u8],
+    coefficients: &mut [u16],
+    bits: &mut [u8],
 ) -> usize
-    requires { ⌜ Walking n s r a × (d ≤ n) × (12 < length (now p)) × (n < length (now g)) × (n + 14 ≤ length (now w)) ⌝ }
-    ensures { λ e. ⌜ Joined n r d e (now (g .entry)) (now (w .entry)) (now (g .exit)) (now (w .exit)) ⌝ }
+    requires { ⌜ CosetWalk n s r a × (d ≤ n) × (12 < length (now coefficients)) × (n < length (now product)) × (n + 14 ≤ length (now bits)) ⌝ }
+    ensures { λ e. ⌜ Joined n r d e (now (product .entry)) (now (bits .entry)) (now (product .exit)) (now (bits .exit)) ⌝ }
 {
-    let m = factor(p, n, s, r, a);
-    bits::bits::multiply(w, p, m + 1, g, d + 1);
-    hand_over(w, g, n + 1);
+    let m = factor(coefficients, n, s, r, a);
+    binary::bits::multiply(bits, coefficients, m + 1, product, d + 1);
+    hand_over(bits, product, n + 1);
     d + m
 }
 
-// The generator of the code of length n with these representatives, in place of 1 in g; its degree. p and w are room, and w
-// holds 0 before and after.
+// The generator of the code of length n with these representatives, in place of the product 1; its degree. The bits hold 0
+// before and after.
 pub fn generator(
-    reps: &[u8],
+    representatives: &[u8],
     n: usize,
     s: usize,
-    g: &mut [u8],
-    p: &mut [u16],
-    w: &mut [u8],
+    product: &mut [u8],
+    factor: &mut [u16],
+    bits: &mut [u8],
 ) -> usize
-    requires { ⌜ Lengths n s × Rising n (now reps) × (12 < length (now p)) × (n < length (now g)) × (n + 14 ≤ length (now w)) × Building n 0 [] (now g) (now w) ⌝ }
-    ensures { λ d. ⌜ Building n d (now (reps .entry)) (now (g .exit)) (now (w .exit)) ⌝ }
+    requires { ⌜ Lengths n s × Rising n (now representatives) × (12 < length (now factor)) × (n < length (now product)) × (n + 14 ≤ length (now bits)) × Building n 0 [] (now product) (now bits) ⌝ }
+    ensures { λ d. ⌜ Building n d (now (representatives .entry)) (now (product .exit)) (now (bits .exit)) ⌝ }
 {
     let first = alpha(n, s);
     let mut d: usize = 0;
-    let mut i = reps.len();
+    let mut i = representatives.len();
     while 0 < i {
         i = i - 1;
-        let r = reps[i] as usize;
+        let r = representatives[i] as usize;
         let a = power(s, first, r);
-        d = times_coset(g, d, n, s, r, a, p, w);
+        d = times_coset(product, d, n, s, r, a, factor, bits);
     }
     d
 }

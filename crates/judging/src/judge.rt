@@ -5,15 +5,15 @@ ghost use Rattle.document.specs.Answer.{judgedAs};
 ghost use Rattle.document.specs.Sheet.{codeLength};
 ghost use Rattle.document.specs.Judge.{judgeOf};
 ghost use Rattle.sheet.specs.Stage.{Marks};
-ghost use Rattle.weighing.specs.Weigh.{Judgeable};
-use cosets::cosets::marks;
-use cosets::cosets::wrong_representative;
+ghost use Rattle.judging.specs.Weigh.{Judgeable};
+use crate::record::record_of;
+use crate::types::Weighed;
+use crate::weigh::weigh;
 use document::types::Judged;
 use document::types::Refusal;
-use record::record::record_of;
-use sheet::sheet::byte;
-use weighing::types::Weighed;
-use weighing::weigh::weigh;
+use sheet::cosets::marks;
+use sheet::cosets::wrong_representative;
+use sheet::header::byte;
 
 // Refusals 5 to 10 of a sheet that draws none of 1 to 4.
 pub fn judge_code(sheet: &[u8], zeros: &mut [u8]) -> Judged
@@ -22,7 +22,7 @@ pub fn judge_code(sheet: &[u8], zeros: &mut [u8]) -> Judged
 {
     let n = byte(sheet, 2);
     let reps = byte(sheet, 3);
-    let s = degree::order::order_of_two(n);
+    let s = field::order::order_of_two(n);
     if wrong_representative(sheet, n, s, reps, zeros) {
         return Judged::Refused(Refusal::Representative);
     }

@@ -1,2 +1,13 @@
-// A sheet's certificates weighed, and its record.
+// A sheet that draws none of refusals 1 to 4: refusals 5 to 10, its working certificate and its record.
+
+// the best certificate so far
+pub mod types;
+
+// all certificates checked, and the working one
+pub mod weigh;
+
+// the record
+pub mod record;
+
+// refusals 5 to 10 in turn
 pub mod judge;

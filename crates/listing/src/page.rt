@@ -6,29 +6,29 @@ ghost use Rattle.document.specs.Answer.{firstOf};
 ghost use Rattle.document.specs.Judge.{certificateConditions};
 ghost use Rattle.document.specs.Card.{certificateLine, acceptedLines, refusedLine};
 ghost use Rattle.certificate.specs.Rules.{Checkable, distanceIn};
-ghost use Rattle.text.specs.Wrote.{Wrote};
-ghost use Rattle.members.specs.Text.{Ranges, rows, codeTexts};
-ghost use Rattle.members.specs.Accepted.{Sound, Listable};
+ghost use Rattle.listing.specs.Wrote.{Wrote};
+ghost use Rattle.listing.specs.Text.{Ranges, rows, codeTexts};
+ghost use Rattle.listing.specs.Accepted.{CertificatesRuled, Listable};
+use crate::lines::certificate_line;
+use crate::lines::code_line;
+use crate::lines::generator_line;
+use crate::lines::radius_line;
+use crate::lines::zeros_line;
+use crate::piece::put;
+use crate::piece::put_field;
+use certificate::check::check;
 use certificate::range::read;
 use certificate::types::Checked;
-use checking::check::check;
-use lines::lines::certificate_line;
-use lines::lines::code_line;
-use lines::lines::generator_line;
-use lines::lines::radius_line;
-use lines::lines::zeros_line;
-use sheet::sheet::byte;
-use text::piece::put;
-use text::piece::put_field;
+use sheet::header::byte;
 
 // The lines of the code itself.
-fn code_lines(out: &mut [u8], n: usize, k: usize, s: usize, zeros: &[u8], g: &[u8]) -> usize
-    requires { ⌜ (800 ≤ length (now out)) × Ranges n k s (now zeros) (now g) ⌝ }
-    ensures { λ r. ⌜ Wrote (codeTexts n k s (now (zeros .entry)) (now (g .entry))) 0 (now (out .entry)) (now (out .exit)) r × (r ≤ 800) ⌝ }
+fn code_lines(out: &mut [u8], n: usize, k: usize, s: usize, zeros: &[u8], generator: &[u8]) -> usize
+    requires { ⌜ (800 ≤ length (now out)) × Ranges n k s (now zeros) (now generator) ⌝ }
+    ensures { λ r. ⌜ Wrote (codeTexts n k s (now (zeros .entry)) (now (generator .entry))) 0 (now (out .entry)) (now (out .exit)) r × (r ≤ 800) ⌝ }
 {
     let numbers = code_line(out, 0, n, k, s);
     let set = zeros_line(out, numbers, n, zeros);
-    generator_line(out, set, g, n - k)
+    generator_line(out, set, generator, n - k)
 }
 
 // The distance that a check answered.
@@ -68,7 +68,7 @@ fn certificate_lines(
     count: usize,
     zeros: &[u8],
 ) -> usize
-    requires { ⌜ (at + 140 ≤ length (now out)) × Sound (now sheet) n reps count (now zeros) ⌝ }
+    requires { ⌜ (at + 140 ≤ length (now out)) × CertificatesRuled (now sheet) n reps count (now zeros) ⌝ }
     ensures { λ r. ⌜ Wrote (rows (certificateLine (now (sheet .entry))) count) at (now (out .entry)) (now (out .exit)) r × (r ≤ at + 140) ⌝ }
 {
     let mut end = at;
@@ -80,7 +80,7 @@ fn certificate_lines(
     end
 }
 
-// The listing of an accepted sheet; its length. The numbers are those of the sheet's record, zeros marks D, g holds the generator.
+// The listing of an accepted sheet; its length. The numbers are those of the sheet's record, `zeros` marks D.
 pub fn write_accepted(
     sheet: &[u8],
     n: usize,
@@ -89,13 +89,13 @@ pub fn write_accepted(
     working: usize,
     t: usize,
     zeros: &[u8],
-    g: &[u8],
+    generator: &[u8],
     out: &mut [u8],
 ) -> usize
-    requires { ⌜ Listable (now sheet) n k s working t (now zeros) (now g) × (1024 ≤ length (now out)) ⌝ }
+    requires { ⌜ Listable (now sheet) n k s working t (now zeros) (now generator) × (1024 ≤ length (now out)) ⌝ }
     ensures { λ r. ⌜ Wrote (acceptedLines (now (sheet .entry))) 0 (now (out .entry)) (now (out .exit)) r ⌝ }
 {
-    let code = code_lines(out, n, k, s, zeros, g);
+    let code = code_lines(out, n, k, s, zeros, generator);
     let certificates = certificate_lines(
         out,
         code,

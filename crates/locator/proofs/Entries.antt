@@ -2,7 +2,7 @@
 --
 --   Entry             coefficient k, with its logarithm and its step
 --   listed-start, listed-more    logarithms and steps
---   Word              the words of one slice, from coefficient o of the remainders on, and their sum with v: each word holds
+--   LaneSum              the words of one slice, from coefficient o of the remainders on, and their sum with v: each word holds
 --                     a remainder, and each lane of the sum a residue
 --   word-start, word-more        none but the constant term, and one more
 use mathlib.Core.Path.{_≡_, sym, ap, ap₂, _∙_, subst}
@@ -21,13 +21,13 @@ use Rattle.field.specs.Field.{Degree, ω, fieldMultiply, fieldPower, logarithm}
 use Rattle.field.proofs.Xor.{⊕-assoc, ⊕-zero-l, ⊕-zero-r}
 use Rattle.field.proofs.Primitive.{Degree-bounds}
 use Rattle.field.proofs.Numbers.{power-z, power-add, power-lt, logarithm-lt, logarithm-is, multiply-one, zero-multiply}
-use Rattle.masks.specs.Factor.{Modulus}
+use Rattle.binary.specs.Factor.{Modulus}
 use Rattle.locator.specs.Terms.{lanes, termSum, Logged}
-use Rattle.tables.proofs.Exponents.{power-mod}
+use Rattle.field.proofs.Exponents.{power-mod}
 use Rattle.locator.proofs.Residue.{power-zero, residue, residue-z, residue-s}
 use Rattle.locator.proofs.TermSums.{sum-z, sum-s, sum-ext}
-use Rattle.evaluation.specs.Lanes.{lane}
-use Rattle.evaluation.proofs.Lanes.{lane-add}
+use Rattle.syndrome.specs.Lanes.{lane}
+use Rattle.syndrome.proofs.Lanes.{lane-add}
 use Rattle.locator.proofs.Lanes.{lane-mask}
 
 -- r says whether there is a term
@@ -44,7 +44,7 @@ pub record Entry (s back k c x l at r : ℕ) (lam lg st : List ℕ) : Type 0 whe
   pub lg-room : c < length lg
   pub st-room : c < length st
 
-pub record Word (s back f u k : ℕ) (lam lg st co : List ℕ) (o v c : ℕ) : Type 0 where
+pub record LaneSum (s back f u k : ℕ) (lam lg st co : List ℕ) (o v c : ℕ) : Type 0 where
   pub of : (m : ℕ) → m < c → (p : ℕ) × (getD co m 0 ≡ lanes (remainder u f (2 ^ p) / 2 ^ o))
   pub sum : (i j : ℕ) → j < 4
       → lane j (v ⊕ termSum s lg st (λ m. getD co m 0) i c) ≡ residue s f u lam (i * back) (o + j) k
@@ -59,7 +59,7 @@ listed-start = record {
 
 -- the constant term alone
 pub word-start : {s back f u o v : ℕ} {lam lg st co : List ℕ} → Degree s → Modulus f u → getD lam 0 0 < 2 ^ s
-    → ((j : ℕ) → j < 4 → lane j v ≡ coefficient (o + j) 1 * getD lam 0 0) → Word s back f u 1 lam lg st co o v 0
+    → ((j : ℕ) → j < 4 → lane j v ≡ coefficient (o + j) 1 * getD lam 0 0) → LaneSum s back f u 1 lam lg st co o v 0
 word-start {s} {back} {f} {u} {o} {v} {lam} {lg} {st} {co} d m b h = record {
   of = λ m l. absurd (omega arith);
   sum = λ i j l.
@@ -119,7 +119,7 @@ module _ {s back k c x l at r : ℕ} {lam lg st : List ℕ} (n : Entry s back k 
       ∙ ap (λ (y : ℕ). fieldMultiply s y (fieldPower s ω (i * back * k))) (log-is h .1 ∙ n .x-is)
 
   pub word-more : {f u o v y e : ℕ} {co : List ℕ} → c < length co → y ≡ remainder u f (2 ^ k) → e ≡ lanes (y / 2 ^ o)
-      → Word s back f u k lam lg st co o v c → Word s back f u (k + 1) lam (set lg c l) (set st c at) (set co c e) o v (c + r)
+      → LaneSum s back f u k lam lg st co o v c → LaneSum s back f u (k + 1) lam (set lg c l) (set st c at) (set co c e) o v (c + r)
   word-more {f} {u} {o} {v} {y} {e} {co} h y-is e-is w = record {
     of = λ m b. elim (ℕ-discrete m c) [
       | yes q ↦ (k, ap κ q ∙ getD-set-same co c e 0 h ∙ e-is ∙ ap (λ (z : ℕ). lanes (z / 2 ^ o)) y-is)

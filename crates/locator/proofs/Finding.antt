@@ -2,7 +2,7 @@
 --
 --   hits-lt, hits-at      the mask of all hits, whose places pass the test
 --   Finding, finding-start, finding-more, finding-all, finding-many      the first i places
---   Below, below-start, below-four, below-all, below-many      those of them that are below n
+--   FindingBelow, below-start, below-four, below-all, below-many      those of them that are below n
 --   noted-le, noted-below-le      a place is counted at most once
 --   noted-below-length      and the list stays as long as it is
 use mathlib.Core.Path.{_≡_, refl, sym, ap, _∙_, subst}
@@ -16,8 +16,8 @@ use lib.ListN.{length, length-set}
 use Rattle.field.specs.Mask.{coefficient}
 use Rattle.cyclic.proofs.Places.{gather-at, gather-lt, count, count-z, count-s}
 use Rattle.sheet.specs.Stage.{bit}
-use Rattle.evaluation.specs.Sums.{Listed}
-use Rattle.evaluation.proofs.Listing.{listing-start, listing-more, listing-end}
+use Rattle.syndrome.specs.Sums.{Listed}
+use Rattle.syndrome.proofs.Listing.{listing-start, listing-more, listing-end}
 use Rattle.locator.specs.Locate.{Noted, NotedBelow, hits, Found}
 
 -- ---- masks of places
@@ -83,17 +83,17 @@ finding-many {n} {test} {t} {i} l h f = record {
 }
 
 -- ---- the places below n of the first i
-pub record Below (n : ℕ) (test : ℕ → Bool) (i c : ℕ) (list : List ℕ) : Type 0 where
+pub record FindingBelow (n : ℕ) (test : ℕ → Bool) (i c : ℕ) (list : List ℕ) : Type 0 where
   pub upto : ℕ
   pub low : i ≤ n → upto ≡ i
   pub high : n ≤ i → upto ≡ n
   pub finding : Finding n test upto c list
 
-pub below-start : {n : ℕ} {test : ℕ → Bool} {list : List ℕ} → n ≤ length list → Below n test 0 0 list
+pub below-start : {n : ℕ} {test : ℕ → Bool} {list : List ℕ} → n ≤ length list → FindingBelow n test 0 0 list
 below-start l = record { upto = 0; low = λ h. refl; high = λ h. omega arith; finding = finding-start l }
 
 below-more : {n : ℕ} {test : ℕ → Bool} {i c r : ℕ} {hit : Bool} {list list′ : List ℕ} → hit ≡ test i
-    → NotedBelow n hit c i list list′ r → Below n test i c list → Below n test (i + 1) (c + r) list′
+    → NotedBelow n hit c i list list′ r → FindingBelow n test i c list → FindingBelow n test (i + 1) (c + r) list′
 below-more {n} {test} {i} {c} {r} {hit} {list} {list′} e m t =
     elim (decLt i n) [
       | yes h ↦ (let q : t .upto ≡ i = t .low (omega arith) in
@@ -120,12 +120,12 @@ pub below-four : {n : ℕ} {test : ℕ → Bool} {i c r₀ r₁ r₂ r₃ : ℕ}
     → h₀ ≡ test i → h₁ ≡ test (i + 1) → h₂ ≡ test (i + 2) → h₃ ≡ test (i + 3)
     → NotedBelow n h₀ c i l₀ l₁ r₀ → NotedBelow n h₁ (c + r₀) (i + 1) l₁ l₂ r₁
     → NotedBelow n h₂ (c + r₀ + r₁) (i + 2) l₂ l₃ r₂ → NotedBelow n h₃ (c + r₀ + r₁ + r₂) (i + 3) l₃ l₄ r₃
-    → Below n test i c l₀ → Below n test (i + 4) (c + r₀ + r₁ + r₂ + r₃) l₄
+    → FindingBelow n test i c l₀ → FindingBelow n test (i + 4) (c + r₀ + r₁ + r₂ + r₃) l₄
 below-four {n} {test} {i} e₀ e₁ e₂ e₃ m₀ m₁ m₂ m₃ t =
     next 3 4 (omega arith) (below-more e₃ m₃ (next 2 3 (omega arith) (below-more e₂ m₂ (next 1 2 (omega arith) (below-more e₁ m₁ (below-more e₀ m₀ t))))))
   where
-    next : {d : ℕ} {v : List ℕ} (a b : ℕ) → a + 1 ≡ b → Below n test (i + a + 1) d v → Below n test (i + b) d v
-    next {d} {v} a b q f = let o : i + a + 1 ≡ i + b = omega arith in subst (λ (k : ℕ). Below n test k d v) o f
+    next : {d : ℕ} {v : List ℕ} (a b : ℕ) → a + 1 ≡ b → FindingBelow n test (i + a + 1) d v → FindingBelow n test (i + b) d v
+    next {d} {v} a b q f = let o : i + a + 1 ≡ i + b = omega arith in subst (λ (k : ℕ). FindingBelow n test k d v) o f
 
 pub noted-below-le : {n : ℕ} {hit : Bool} {c i r : ℕ} {list list′ : List ℕ} → NotedBelow n hit c i list list′ r → r ≤ 1
 noted-below-le {n} {i = i} m =
@@ -142,11 +142,11 @@ noted-below-length {n} {i = i} m =
       | no h ↦ ap length (m .outside (omega arith) .1)
     ]
 
-pub below-all : {n : ℕ} {test : ℕ → Bool} {t i c : ℕ} {list : List ℕ} → n ≤ i → c ≤ t → Below n test i c list
+pub below-all : {n : ℕ} {test : ℕ → Bool} {t i c : ℕ} {list : List ℕ} → n ≤ i → c ≤ t → FindingBelow n test i c list
     → Found n t (hits n test) list c
 below-all h l f = finding-all (f .high h) l (f .finding)
 
-pub below-many : {n : ℕ} {test : ℕ → Bool} {t i c : ℕ} {list : List ℕ} → t < c → Below n test i c list
+pub below-many : {n : ℕ} {test : ℕ → Bool} {t i c : ℕ} {list : List ℕ} → t < c → FindingBelow n test i c list
     → Found n t (hits n test) list c
 below-many {n} {i = i} h f =
     elim (decLt i n) [

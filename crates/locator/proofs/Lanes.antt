@@ -11,16 +11,16 @@ use native.Mathlib.Omega.{arith}
 use Rattle.field.specs.Search.{total}
 use Rattle.field.specs.Mask.{coefficient}
 use Rattle.field.proofs.Xor.{digit-lt}
-use Rattle.evaluation.specs.Lanes.{spaced, lane}
-use Rattle.evaluation.proofs.Lanes.{lane-times}
+use Rattle.syndrome.specs.Lanes.{inLanes, lane}
+use Rattle.syndrome.proofs.Lanes.{lane-times}
 use Rattle.locator.specs.Terms.{lanes}
 
 pub lanes-are : (y : ℕ) → ((y / 8 % 2 * 65536 + y / 4 % 2) * 65536 + y / 2 % 2) * 65536 + y % 2 ≡ lanes y
-unfolding lanes spaced total
+unfolding lanes inLanes total
 lanes-are y = omega arith
 
 pub lanes-le : (y : ℕ) → lanes y ≤ lanes 15
-unfolding lanes spaced total
+unfolding lanes inLanes total
 lanes-le y = omega arith
 
 pub lane-mask : (y p : ℕ) → p < 2 ^ 16 → (j : ℕ) → j < 4 → lane j (lanes y * p) ≡ coefficient j y * p
@@ -28,5 +28,5 @@ unfolding lanes
 lane-mask y p h j l = lane-times (λ i. coefficient i y) (λ i. digit-lt (y / 2 ^ i)) p h j l
 
 pub lane-low : (p : ℕ) → p < 2 ^ 16 → (j : ℕ) → j < 4 → lane j p ≡ coefficient j 1 * p
-unfolding lanes spaced total
+unfolding lanes inLanes total
 lane-low p h j l = ap (lane j) (sym (one-mul p)) ∙ lane-mask 1 p h j l

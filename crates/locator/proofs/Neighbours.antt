@@ -12,12 +12,12 @@ use native.Mathlib.Omega.{arith}
 use lib.Bits.{bitXor}
 use lib.Dec.{eqb}
 use lib.ListN.{length, getD}
-use Rattle.tables.specs.Tables.{Powered}
-use Rattle.tables.proofs.Exponents.{looked, looked-on, looked-next}
+use Rattle.field.specs.Tables.{Powered}
+use Rattle.field.proofs.Exponents.{looked, looked-on, looked-next}
 use Rattle.locator.specs.Terms.{aloneAt, vanishesAlone, Logged}
 use Rattle.locator.specs.Locate.{NotedBelow, hits, Found}
 use Rattle.locator.proofs.TermSums.{Summing, summing-start, summing-one, summing-end}
-use Rattle.locator.proofs.Finding.{noted-below-le, noted-below-length, Below, below-start, below-four, below-all, below-many}
+use Rattle.locator.proofs.Finding.{noted-below-le, noted-below-length, FindingBelow, below-start, below-four, below-all, below-many}
 
 pub record Neighbours (s constant count i : ℕ) (lg st e : List ℕ) (m first second third fourth : ℕ) : Type 0 where
   pub powered : Powered s e
@@ -78,7 +78,7 @@ pub record Fours (n t s constant count : ℕ) (lg st e list₀ list : List ℕ) 
   pub n-le : n ≤ 2 ^ s - 1
   pub few : n ≤ 256
   pub kept : length list ≡ length list₀
-  pub below : Below n (vanishesAlone s constant count lg st) i c list
+  pub below : FindingBelow n (vanishesAlone s constant count lg st) i c list
   pub c-t : c ≤ t
   pub c-i : c ≤ i
 
@@ -102,7 +102,7 @@ module _ {n t s constant count i c r₀ r₁ r₂ r₃ a₀ a₁ a₂ a₃ : ℕ
     (m₀ : NotedBelow n (eqb a₀ 0) c i l₀ l₁ r₀) (m₁ : NotedBelow n (eqb a₁ 0) (c + r₀) (i + 1) l₁ l₂ r₁)
     (m₂ : NotedBelow n (eqb a₂ 0) (c + r₀ + r₁) (i + 2) l₂ l₃ r₂)
     (m₃ : NotedBelow n (eqb a₃ 0) (c + r₀ + r₁ + r₂) (i + 3) l₃ l₄ r₃) (v : Fours n t s constant count lg st e l l₀ c i) where
-  next : Below n (vanishesAlone s constant count lg st) (i + 4) (c + r₀ + r₁ + r₂ + r₃) l₄
+  next : FindingBelow n (vanishesAlone s constant count lg st) (i + 4) (c + r₀ + r₁ + r₂ + r₃) l₄
   unfolding vanishesAlone
   next =
       below-four (ap (λ (y : ℕ). eqb y 0) (x .0)) (ap (λ (y : ℕ). eqb y 0) (x .1)) (ap (λ (y : ℕ). eqb y 0) (x .2))

@@ -27,8 +27,8 @@ use Rattle.field.proofs.Elements.{F, GF, el, el-add, el-mul, el-zero, el-inj, g
 use Rattle.field.proofs.Numbers.{multiply-lt, el-power}
 use Rattle.cyclic.proofs.Lift.{lift, lift-at}
 use Rattle.cyclic.proofs.Places.{coefficient-above}
-use Rattle.masks.specs.Factor.{Modulus}
-use Rattle.masks.proofs.Period.{modulus-top, modulus-two}
+use Rattle.binary.specs.Factor.{Modulus}
+use Rattle.binary.proofs.MaskPeriod.{modulus-top, modulus-two}
 use Rattle.poly.specs.Slice.{Short, series}
 use Rattle.locator.proofs.Reduction.{reduced, reduced-at, divides-reduced}
 

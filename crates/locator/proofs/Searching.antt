@@ -15,11 +15,11 @@ use Rattle.field.specs.Field.{Degree, OddLength, orderOfTwo}
 use Rattle.field.proofs.OrderOfTwo.{order-divides}
 use Rattle.field.proofs.Elements.{GF, gen, root, root-order}
 use Rattle.cyclic.proofs.Lift.{lift}
-use Rattle.tables.specs.Tables.{Tables}
+use Rattle.field.specs.Tables.{Tables}
 use Rattle.sheet.specs.Stage.{bit}
-use Rattle.evaluation.proofs.Roots.{root-lt}
+use Rattle.syndrome.proofs.Roots.{root-lt}
 use Rattle.poly.specs.Slice.{series}
-use Rattle.locator.specs.Terms.{vanishes, Walkable, Walked, vanishesAlone}
+use Rattle.locator.specs.Terms.{vanishes, TermsListable, TermsListed, vanishesAlone}
 use Rattle.locator.specs.Locate.{hits, Found, Search, Located}
 use Rattle.locator.proofs.Reduction.{divides-substituted}
 use Rattle.locator.proofs.TermSums.{alone-is}
@@ -36,7 +36,7 @@ pub length-le : {n s : ℕ} {e g : List ℕ} → OddLength n → s ≡ orderOfTw
 length-le o e t = le-of-dvd (omega (arith, t .four)) (divides o e)
 
 pub walkable : {n s z f u len back : ℕ} {lam e g lg st lo hi list : List ℕ} → Search n s z f u len lam e g lg st lo hi list
-    → back < 2 ^ s - 1 → Walkable s back f u len lam g lg st lo hi
+    → back < 2 ^ s - 1 → TermsListable s back f u len lam g lg st lo hi
 walkable p h = record {
   degree = p .tables .degree;
   modulus = p .modulus;
@@ -67,7 +67,7 @@ module _ {n s z f u len q : ℕ} {lam e g lg st lo hi list : List ℕ} (p : Sear
       ∙ sym (pow-add (GF d) (root d n) (i * z) (i * (n - z)))
       ∙ ap (pow (GF d) (root d n)) round ∙ pow-multiple (GF d) (root d n) n (root-order d n (divides (p .odd) (p .s-is))) i
 
-  pub located : {t c r : ℕ} {lg′ st′ lo′ hi′ list′ : List ℕ} → Walked s ((n - z) * q) f u lam lg′ st′ lo′ hi′ c
+  pub located : {t c r : ℕ} {lg′ st′ lo′ hi′ list′ : List ℕ} → TermsListed s ((n - z) * q) f u lam lg′ st′ lo′ hi′ c
       → Found n t (hits n (vanishes s (getD lam 0 0) c lg′ st′ lo′ hi′)) list′ r → Located n s z f t lam list′ r
   located {t} {c} {r} {lg′} {st′} {lo′} {hi′} {list′} v x = record {
     places = hits n test;
@@ -84,7 +84,7 @@ module _ {n s z f u len q : ℕ} {lam e g lg st lo hi list : List ℕ} (p : Sear
       test = vanishes s (getD lam 0 0) c lg′ st′ lo′ hi′
 
   -- the same for f = 1 + x
-  pub located-alone : {t c r : ℕ} {lg′ st′ lo′ hi′ list′ : List ℕ} → Walked s ((n - z) * q) f u lam lg′ st′ lo′ hi′ c → u ≡ 1
+  pub located-alone : {t c r : ℕ} {lg′ st′ lo′ hi′ list′ : List ℕ} → TermsListed s ((n - z) * q) f u lam lg′ st′ lo′ hi′ c → u ≡ 1
       → Found n t (hits n (vanishesAlone s (getD lam 0 0) c lg′ st′)) list′ r → Located n s z f t lam list′ r
   located-alone {t} {c} {r} {lg′} {st′} {list′ = list′} v e x =
       located v

@@ -25,7 +25,7 @@ use Rattle.field.specs.Field.{Degree, ω, fieldPower}
 use Rattle.field.proofs.Xor.{⊕-assoc, ⊕-self, ⊕-zero-l, ⊕-zero-r}
 use Rattle.field.proofs.Primitive.{Degree-bounds}
 use Rattle.field.proofs.Numbers.{power-lt}
-use Rattle.evaluation.specs.Lanes.{spaced}
+use Rattle.syndrome.specs.Lanes.{inLanes}
 use Rattle.locator.specs.Terms.{lanes, termSum, vanishes, aloneAt, vanishesAlone, Laned}
 
 pub sum-z : (s : ℕ) (lg st : List ℕ) (κ : ℕ → ℕ) (i : ℕ) → termSum s lg st κ i 0 ≡ 0
@@ -80,7 +80,7 @@ weighed : {x y z : ℕ} (k : ℕ) → x ≡ y → y ≡ z → x * k ≡ k * z
 weighed {x} {y} {z} k e f = ap (λ (v : ℕ). v * k) (e ∙ f) ∙ mul-comm z k
 
 pub weight-fits : {s x y : ℕ} (k n : ℕ) → Degree s → x ≡ y → y ≡ fieldPower s ω n → k ≤ lanes 15 → x * k < 2 ^ 64
-unfolding lanes spaced total
+unfolding lanes inLanes total
 weight-fits {s} {x} {y} k n d e f h =
     let b : 2 ^ s ≤ 4096 = Degree-bounds d .1 in
     let l : fieldPower s ω n < 2 ^ s = power-lt d ω n in

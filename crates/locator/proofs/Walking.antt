@@ -1,6 +1,6 @@
 -- The walk over a locator's coefficients.
 --
---   Walking           the slices after k coefficients: walking-start, walking-more
+--   TermsUpTo           the slices after k coefficients: walking-start, walking-more
 --   word-lt           a word of sums is below 2^64
 --   words-null        two words are 0 exactly where all residues are
 --   walking-end       so they tell at each place whether f divides the locator there
@@ -30,28 +30,28 @@ use Rattle.field.proofs.Remainder.{xtime, remainder-small, remainder-dbl}
 use Rattle.field.proofs.Elements.{GF, gen}
 use Rattle.cyclic.proofs.Lift.{lift}
 use Rattle.cyclic.proofs.Places.{coefficient-above}
-use Rattle.masks.specs.Factor.{Modulus}
-use Rattle.masks.proofs.Period.{modulus-top, modulus-lt, count-more}
+use Rattle.binary.specs.Factor.{Modulus}
+use Rattle.binary.proofs.MaskPeriod.{modulus-top, modulus-lt, count-more}
 use Rattle.poly.specs.Slice.{Short, series}
-use Rattle.locator.specs.Terms.{lanes, termSum, vanishes, Logged, Walkable, Walked}
+use Rattle.locator.specs.Terms.{lanes, termSum, vanishes, Logged, TermsListable, TermsListed}
 use Rattle.locator.proofs.Residue.{power-zero, residue, residue-high, divides-residues}
 use Rattle.locator.proofs.TermSums.{sum-z, sum-s, weight-fits}
-use Rattle.evaluation.specs.Lanes.{spaced, lane}
-use Rattle.evaluation.proofs.Lanes.{lane-zero, lanes-null}
+use Rattle.syndrome.specs.Lanes.{inLanes, lane}
+use Rattle.syndrome.proofs.Lanes.{lane-zero, lanes-null}
 use Rattle.locator.proofs.Lanes.{lanes-le, lane-low}
-use Rattle.locator.proofs.Entries.{Entry, Word, listed-start, listed-more, word-start, word-more}
+use Rattle.locator.proofs.Entries.{Entry, LaneSum, listed-start, listed-more, word-start, word-more}
 
-pub record Walking (s back f u k : ℕ) (lam lg st lo hi : List ℕ) (c at y : ℕ) : Type 0 where
+pub record TermsUpTo (s back f u k : ℕ) (lam lg st lo hi : List ℕ) (c at y : ℕ) : Type 0 where
   pub fewer : c < k
   pub at-is : at ≡ back * k % (2 ^ s - 1)
   pub at-lt : at < 2 ^ s - 1
   pub y-is : y ≡ remainder u f (2 ^ k)
   pub listed : Logged s c lg st
-  pub low : Word s back f u k lam lg st lo 0 (getD lam 0 0) c
-  pub high : Word s back f u k lam lg st hi 4 0 c
+  pub low : LaneSum s back f u k lam lg st lo 0 (getD lam 0 0) c
+  pub high : LaneSum s back f u k lam lg st hi 4 0 c
 
-walking-start : {s back f u len y : ℕ} {lam g lg st lo hi : List ℕ} → Walkable s back f u len lam g lg st lo hi
-    → y ≡ remainder u f (1 * 2) → Walking s back f u 1 lam lg st lo hi 0 back y
+walking-start : {s back f u len y : ℕ} {lam g lg st lo hi : List ℕ} → TermsListable s back f u len lam g lg st lo hi
+    → y ≡ remainder u f (1 * 2) → TermsUpTo s back f u 1 lam lg st lo hi 0 back y
 walking-start {s} {back} {f} {u} {len} {y} {lam} p e = record {
   fewer = omega arith;
   at-is = sym (ap (λ (x : ℕ). x % (2 ^ s - 1)) (mul-one back) ∙ mod-eq-of-lt (p .back-lt));
@@ -67,11 +67,11 @@ walking-start {s} {back} {f} {u} {len} {y} {lam} p e = record {
 }
 
 walking-more : {s back f u len k c at y r a b end at′ y′ : ℕ} {lam g lg₀ st₀ lo₀ hi₀ lg st lo hi : List ℕ}
-    → Walkable s back f u len lam g lg₀ st₀ lo₀ hi₀ → k < len → length lg ≡ length lg₀ → length st ≡ length st₀
+    → TermsListable s back f u len lam g lg₀ st₀ lo₀ hi₀ → k < len → length lg ≡ length lg₀ → length st ≡ length st₀
     → length lo ≡ length lo₀ → length hi ≡ length hi₀ → (getD lam k 0 ≡ 0 → r ≡ 0) → (0 < getD lam k 0 → r ≡ 1) → r ≤ 1
     → a ≡ lanes y → b ≡ lanes (y / 16) → end ≡ 2 ^ s - 1 → at′ ≡ (at + back) % end → y′ ≡ remainder u f (y * 2)
-    → Walking s back f u k lam lg st lo hi c at y
-    → Walking s back f u (k + 1) lam (set lg c (getD g (getD lam k 0) 0)) (set st c at) (set lo c a) (set hi c b) (c + r) at′ y′
+    → TermsUpTo s back f u k lam lg st lo hi c at y
+    → TermsUpTo s back f u (k + 1) lam (set lg c (getD g (getD lam k 0) 0)) (set st c at) (set lo c a) (set hi c b) (c + r) at′ y′
 walking-more {s} {back} {f} {u} {len} {k} {c} {at} {y} {r} {a} {b} {end} {at′} {y′} {lam} {g} {lg₀} {st₀} {lo₀}
     {hi₀} {lg} {st} {lo} {hi} p h el es eo eh r0 r1 r-le a-is b-is end-is at-next y-next w = record {
       fewer = omega (arith, w .fewer);
@@ -155,11 +155,11 @@ one-left {f} {u} m e i =
     ap₂ (λ (v w : ℕ). remainder v w (2 ^ i)) e three ∙ three-left i
 
 one-lane : (lanes (1 / 2 ^ 0) ≡ 1) × (lanes (1 / 2 ^ 4) ≡ 0)
-unfolding lanes spaced total
+unfolding lanes inLanes total
 one-lane = (refl, refl)
 
 module _ {s back f u len k c at y : ℕ} {lam g lg₀ st₀ lo₀ hi₀ lg st lo hi : List ℕ}
-    (p : Walkable s back f u len lam g lg₀ st₀ lo₀ hi₀) (w : Walking s back f u k lam lg st lo hi c at y) where
+    (p : TermsListable s back f u len lam g lg₀ st₀ lo₀ hi₀) (w : TermsUpTo s back f u k lam lg st lo hi c at y) where
   lo-le : (m : ℕ) → m < c → getD lo m 0 ≤ lanes 15
   lo-le m h = let q = w .low .of m h in subst (λ (x : ℕ). x ≤ lanes 15) (sym (q .1)) (lanes-le _)
 
@@ -180,7 +180,7 @@ module _ {s back f u len k c at y : ℕ} {lam g lg₀ st₀ lo₀ hi₀ lg st lo
       let z = divides-residues d (p .modulus) k (i * back) lam (subst (λ (x : ℕ). Short x lam) (sym e) (p .locator .short)) in
       (λ t. z .1 (b .0 (a .0 t)), λ t. a .1 (b .1 (z .0 t)))
 
-  walking-end : k ≡ len → length lo ≡ length lo₀ → length hi ≡ length hi₀ → Walked s back f u lam lg st lo hi c
+  walking-end : k ≡ len → length lo ≡ length lo₀ → length hi ≡ length hi₀ → TermsListed s back f u lam lg st lo hi c
   walking-end e eo eh = record {
     listed = w .listed;
     laned = record {
@@ -198,16 +198,16 @@ module _ {s back f u len k c at y : ℕ} {lam g lg₀ st₀ lo₀ hi₀ lg st lo
 
 -- ---- the loop: the slices as they were given and as they are
 pub record Loop (s back f u len end : ℕ) (lam g lg₀ st₀ lo₀ hi₀ lg st lo hi : List ℕ) (c at y k : ℕ) : Type 0 where
-  pub given : Walkable s back f u len lam g lg₀ st₀ lo₀ hi₀
+  pub given : TermsListable s back f u len lam g lg₀ st₀ lo₀ hi₀
   pub end-is : end ≡ 2 ^ s - 1
   pub k-le : k ≤ len
   pub lg-kept : length lg ≡ length lg₀
   pub st-kept : length st ≡ length st₀
   pub lo-kept : length lo ≡ length lo₀
   pub hi-kept : length hi ≡ length hi₀
-  pub walking : Walking s back f u k lam lg st lo hi c at y
+  pub walking : TermsUpTo s back f u k lam lg st lo hi c at y
 
-pub loop-start : {s back f u len end y : ℕ} {lam g lg st lo hi : List ℕ} → Walkable s back f u len lam g lg st lo hi
+pub loop-start : {s back f u len end y : ℕ} {lam g lg st lo hi : List ℕ} → TermsListable s back f u len lam g lg st lo hi
     → end ≡ 2 ^ s - 1 → y ≡ remainder u f (1 * 2) → Loop s back f u len end lam g lg st lo hi lg st lo hi 0 back y 1
 loop-start p o e = record {
   given = p;
@@ -239,5 +239,5 @@ loop-more h r a-is b-is at-next y-next t = record {
 }
 
 pub loop-end : {s back f u len end c at y k : ℕ} {lam g lg₀ st₀ lo₀ hi₀ lg st lo hi : List ℕ} → len ≤ k
-    → Loop s back f u len end lam g lg₀ st₀ lo₀ hi₀ lg st lo hi c at y k → Walked s back f u lam lg st lo hi c
+    → Loop s back f u len end lam g lg₀ st₀ lo₀ hi₀ lg st lo hi c at y k → TermsListed s back f u lam lg st lo hi c
 loop-end h t = walking-end (t .given) (t .walking) (omega (arith, t .k-le)) (t .lo-kept) (t .hi-kept)

@@ -20,12 +20,12 @@ use Rattle.field.specs.Field.{Degree, OddLength, orderOfTwo}
 use Rattle.field.proofs.Elements.{GF, root}
 use Rattle.cyclic.proofs.Lift.{lift}
 use Rattle.cyclic.proofs.Places.{gather, count}
-use Rattle.masks.specs.Factor.{Modulus}
-use Rattle.tables.specs.Tables.{Tables}
+use Rattle.binary.specs.Factor.{Modulus}
+use Rattle.field.specs.Tables.{Tables}
 use Rattle.sheet.specs.Stage.{bit}
-use Rattle.evaluation.specs.Sums.{Listed}
+use Rattle.syndrome.specs.Sums.{Listed}
 use Rattle.poly.specs.Slice.{series}
-use Rattle.locator.specs.Terms.{Locator}
+use Rattle.locator.specs.Terms.{LocatorSlices}
 
 pub record Noted (hit : Bool) (c i : ℕ) (list list′ : List ℕ) (r : ℕ) : Type 0 where
   pub is : r ≡ bit hit
@@ -50,7 +50,7 @@ pub record Search (n s z f u len : ℕ) (lam e g lg st lo hi list : List ℕ) : 
   pub z-lo : 1 ≤ z
   pub z-hi : z < n
   pub modulus : Modulus f u
-  pub locator : Locator s len lam lg st lo hi
+  pub locator : LocatorSlices s len lam lg st lo hi
   pub list-long : n ≤ length list
   pub few : n ≤ 256
 

@@ -4,8 +4,8 @@
 --   termSum s lg st κ i c   the sum of κ m ω^(lg m + i st m) over the terms m below c
 --   vanishes                whether all coefficients of the remainder at place i are 0: a lane of two such sums for each
 --   aloneAt, vanishesAlone  the same for f = 1 + x: the one coefficient of the remainder
---   Locator                 a locator of at most len coefficients, and room for its terms
---   Walkable, Walked        the locator's terms: what listing them needs, and leaves
+--   LocatorSlices                 a locator of at most len coefficients, and room for its terms
+--   TermsListable, TermsListed        the locator's terms: what listing them needs, and leaves
 --   Logged s c lg st        logarithms and steps of c terms
 --   Laned u c lo hi         the remainders of c terms, in lanes
 --   Searchable              all that a place needs
@@ -24,13 +24,13 @@ use Rattle.field.specs.Mask.{_⊕_, coefficient}
 use Rattle.field.specs.Field.{Degree, ω, fieldPower, logarithm}
 use Rattle.field.proofs.Elements.{GF, gen}
 use Rattle.cyclic.proofs.Lift.{lift}
-use Rattle.masks.specs.Factor.{Modulus}
-use Rattle.tables.specs.Tables.{Powered}
-use Rattle.evaluation.specs.Lanes.{spaced}
+use Rattle.binary.specs.Factor.{Modulus}
+use Rattle.field.specs.Tables.{Powered}
+use Rattle.syndrome.specs.Lanes.{inLanes}
 use Rattle.poly.specs.Slice.{Small, Short, series}
 
 unfoldable pub lanes : ℕ → ℕ
-lanes y = spaced (λ j. coefficient j y)
+lanes y = inLanes (λ j. coefficient j y)
 
 unfoldable pub termSum : ℕ → (lg st : List ℕ) → (ℕ → ℕ) → (i c : ℕ) → ℕ
 termSum s lg st κ i zero = 0
@@ -63,7 +63,7 @@ pub record Laned (u c : ℕ) (lo hi : List ℕ) : Type 0 where
   pub lo-one : u ≡ 1 → (m : ℕ) → m < c → getD lo m 0 ≡ 1
   pub hi-one : u ≡ 1 → (m : ℕ) → m < c → getD hi m 0 ≡ 0
 
-pub record Locator (s len : ℕ) (lam lg st lo hi : List ℕ) : Type 0 where
+pub record LocatorSlices (s len : ℕ) (lam lg st lo hi : List ℕ) : Type 0 where
   pub small : Small s lam
   pub short : Short len lam
   pub pos : 0 < len
@@ -73,16 +73,16 @@ pub record Locator (s len : ℕ) (lam lg st lo hi : List ℕ) : Type 0 where
   pub lo-long : len ≤ length lo
   pub hi-long : len ≤ length hi
 
-pub record Walkable (s back f u len : ℕ) (lam g lg st lo hi : List ℕ) : Type 0 where
+pub record TermsListable (s back f u len : ℕ) (lam g lg st lo hi : List ℕ) : Type 0 where
   pub degree : Degree s
   pub modulus : Modulus f u
   pub back-lt : back < 2 ^ s - 1
   pub g-long : 2 ^ s ≤ length g
   pub g-at : (a : ℕ) → a < 2 ^ s → getD g a 0 ≡ logarithm s a
-  pub locator : Locator s len lam lg st lo hi
+  pub locator : LocatorSlices s len lam lg st lo hi
 
 -- at place i the c terms are those of the locator at ω^(i back) x
-pub record Walked (s back f u : ℕ) (lam lg st lo hi : List ℕ) (c : ℕ) : Type 0 where
+pub record TermsListed (s back f u : ℕ) (lam lg st lo hi : List ℕ) (c : ℕ) : Type 0 where
   pub listed : Logged s c lg st
   pub laned : Laned u c lo hi
   pub means : (d : Degree s) (i : ℕ)

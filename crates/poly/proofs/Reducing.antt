@@ -1,15 +1,17 @@
 -- Division with cofactors, one term of the quotient after the other.
 --
 --   inverse-there, inverse-at          a leading coefficient has an inverse, at the logarithm that the tables give
---   quotient-lt, addable-a, addable-w  the term of the quotient fits: bounds of its logarithm, room in both slices
---   struck                             it takes the leading coefficient of any polynomial away
---   leading-below, leading-is, cancelled      that of a: a has no higher one, it is ω^i, and it is taken away
+--   by-inverse, by-quotient            two ways to the quotient of leading coefficients; first-term, only-term: of a row by another
+--   quotient-there                     that quotient is there
+--   struck                             the term takes the leading coefficient of any polynomial away
+--   leading-below, leading-ne          a has no higher coefficient, and the leading one is not 0
+--   addable-a, addable-w, cancelled    the term fits into both slices, and takes a's leading coefficient away
 --   reduced-one, reduced-none, reduced-more      one term, none, and one after others
 --   reducible-on                       what is left can be divided on
-use mathlib.Core.Path.{_≡_, sym, ap, ap₂, _∙_, subst}
+use mathlib.Core.Path.{_≡_, refl, sym, ap, ap₂, _∙_, subst}
 use mathlib.Core.Logic.{_≢_}
 use mathlib.Core.List.{List, [], _∷_}
-use Prim.Native.Nat.{ℕ, suc, _+_, _-_, _*_, _^_, _≤_, _<_}
+use Prim.Native.Nat.{ℕ, suc, _+_, _-_, _^_, _≤_, _<_}
 use native.Mathlib.Omega.{arith}
 use lib.ListN.{length, getD}
 use Rattle.algebra.proofs.Ring.{Ring, ring, mul-one, mul-assoc}
@@ -17,12 +19,13 @@ use Rattle.algebra.proofs.Field.{Field}
 use Rattle.algebra.proofs.Series.{Ser}
 use Rattle.algebra.proofs.Poly.{Below, Below·weaken, Below·zero, Below·add, mono, mono-below}
 use Rattle.algebra.proofs.Divide.{Deg, lead, lead-below}
-use Rattle.field.specs.Field.{Degree, ω, fieldMultiply, fieldPower, logarithm, inverses}
+use Rattle.field.specs.Field.{Degree, ω, fieldMultiply, fieldPower, logarithm, inverses, quotients}
 use Rattle.field.proofs.Elements.{F, GF, isField, el, el-mul}
 use Rattle.field.proofs.Numbers.{power-add, power-lt, multiply-one, multiply-assoc, multiply-comm, multiply-zero, el-ne}
 use Rattle.field.proofs.Numbers.{logarithm-lt, logarithm-is, inverses-of, inverse-is}
+use Rattle.field.proofs.Shifts.{quotient-back, no-quotient}
 use Rattle.poly.specs.Slice.{Short, series}
-use Rattle.poly.specs.Division.{plus, Addable, Added, LengthOf, InverseAt, Reducible, Reduced}
+use Rattle.poly.specs.Division.{plus, Addable, Added, LengthOf, InverseAt, Cancels, Reducible, Reduced}
 use Rattle.poly.proofs.Slices.{below-of, short-of}
 
 -- ---- the inverse of a leading coefficient
@@ -59,12 +62,31 @@ top-is {s} {k} {b} d i v =
     ap (λ (x : ℕ). fieldMultiply s x b) (sym (power-add d ω i k)) ∙ multiply-assoc d (fieldPower s ω i) (fieldPower s ω k) b
     ∙ ap (fieldMultiply s (fieldPower s ω i)) (v .is) ∙ multiply-one d (fieldPower s ω i) (power-lt d ω i)
 
--- where P has the leading coefficient ω^i
-pub struck : {s la lb lv k : ℕ} {a b w v e g : List ℕ} → Reducible s la lb lv a b w v e g → InverseAt s k (getD b (lb - 1) 0)
-    → (d : Degree s) (i j : ℕ) {m : ℕ} {P : ℕ → F s} → j + lb ≡ suc m → Below (GF d) (suc m) P → P m ≡ el d (fieldPower s ω i)
-    → Below (GF d) m (plus d P (mono (GF d) j (el d (fieldPower s ω (i + k)))) (series d b))
+-- the quotient of leading coefficients, by the inverse of the divisor's, or by division
+pub by-inverse : {s k a b i : ℕ} → Degree s → InverseAt s k b → a < 2 ^ s → a ≢ 0 → i ≡ logarithm s a → Cancels s (i + k) a b
+by-inverse {s} {k} {a} {b} {i} d o h n e = record {
+  most = let l : i < 2 ^ s - 1 = subst (λ (j : ℕ). j < 2 ^ s - 1) (sym e) (logarithm-lt d a h n) in omega (arith, o .k-lt);
+  is = top-is d i o ∙ ap (fieldPower s ω) e ∙ logarithm-is d a h n;
+}
+
+pub by-quotient : {s q a b x : ℕ} → Degree s → a < 2 ^ s → a ≢ 0 → b < 2 ^ s → b ≢ 0 → x ∷ [] ≡ quotients s a b → q ≡ logarithm s x → Cancels s q a b
+by-quotient {s} {q} {a} {b} {x} d a-lt a-ne h n e o = record {
+  most = let l : q < 2 ^ s - 1 = subst (λ (j : ℕ). j < 2 ^ s - 1) (sym o) (logarithm-lt d x (y .0) x-ne) in omega arith;
+  is = ap (λ (z : ℕ). fieldMultiply s z b) (ap (fieldPower s ω) o ∙ logarithm-is d x (y .0) x-ne) ∙ y .1;
+}
+  where
+    y : (x < 2 ^ s) × (fieldMultiply s x b ≡ a)
+    y = quotient-back d a b x h n a-lt e
+
+    x-ne : x ≢ 0
+    x-ne z = a-ne (sym (y .1) ∙ ap (λ (i : ℕ). fieldMultiply s i b) z ∙ multiply-comm d 0 b ∙ multiply-zero d b)
+
+-- where P has the leading coefficient c
+pub struck : {s la lb lv q c : ℕ} {a b w v e g : List ℕ} → Reducible s la lb lv a b w v e g → Cancels s q c (getD b (lb - 1) 0)
+    → (d : Degree s) (j : ℕ) {m : ℕ} {P : ℕ → F s} → j + lb ≡ suc m → Below (GF d) (suc m) P → P m ≡ el d c
+    → Below (GF d) m (plus d P (mono (GF d) j (el d (fieldPower s ω q))) (series d b))
 unfolding series
-struck {s} {la} {lb} {lv} {k} {a} {b} p o d i j {m} {P} h below top =
+struck {s} {la} {lb} {lv} {q} {c} {a} {b} p o d j {m} {P} h below top =
     subst (Below (GF d) m) (sym is) (lead-below (GF d) (isField d) (omega arith) below b-deg)
   where
     b-deg : Deg (GF d) (lb - 1) (series d b)
@@ -73,72 +95,75 @@ struck {s} {la} {lb} {lv} {k} {a} {b} p o d i j {m} {P} h below top =
       top = el-ne d _ (p .b-small .at (lb - 1)) (p .b-length .leading (p .b-pos));
     }
 
-    c-is : el d (fieldPower s ω (i + k)) ≡ GF d .mul (P m) (isField d .inv (series d b (lb - 1)))
-    c-is = quotient-is (GF d) (isField d) _ _ _ (b-deg .top) (sym (el-mul d _ _) ∙ ap (el d) (top-is d i o) ∙ sym top)
+    c-is : el d (fieldPower s ω q) ≡ GF d .mul (P m) (isField d .inv (series d b (lb - 1)))
+    c-is = quotient-is (GF d) (isField d) _ _ _ (b-deg .top) (sym (el-mul d _ _) ∙ ap (el d) (o .is) ∙ sym top)
 
-    is : plus d P (mono (GF d) j (el d (fieldPower s ω (i + k)))) (series d b)
+    is : plus d P (mono (GF d) j (el d (fieldPower s ω q))) (series d b)
         ≡ plus d P (lead (GF d) (isField d) m (lb - 1) P (series d b)) (series d b)
     is = let q : j ≡ m - (lb - 1) = omega (arith, p .b-pos) in ap₂ (λ n c. plus d P (mono (GF d) n c) (series d b)) q c-is
 
-module _ {s la lb lv k : ℕ} {a b w v e g : List ℕ} (p : Reducible s la lb lv a b w v e g) (l : lb ≤ la)
-    (o : InverseAt s k (getD b (lb - 1) 0)) {i : ℕ} (i-is : i ≡ logarithm s (getD a (la - 1) 0)) where
-  abbrev d : Degree s
-  d = p .tables .degree
+module _ {s la lb lv : ℕ} {a b w v e g : List ℕ} (p : Reducible s la lb lv a b w v e g) (l : lb ≤ la) where
+  pub leading-below : (d : Degree s) → Below (GF d) (suc (la - 1)) (series d a)
+  leading-below d = below-of d (omega (arith, p .b-pos)) (p .a-length .short)
 
-  a-ne : getD a (la - 1) 0 ≢ 0
-  a-ne = p .a-length .leading (omega (arith, p .b-pos))
+  pub leading-ne : getD a (la - 1) 0 ≢ 0
+  leading-ne = p .a-length .leading (omega (arith, p .b-pos))
 
-  pub quotient-lt : i + k ≤ 2 * (2 ^ s - 1)
-  quotient-lt =
-      let h : i < 2 ^ s - 1 = subst (λ (j : ℕ). j < 2 ^ s - 1) (sym i-is) (logarithm-lt d _ (p .a-small .at (la - 1)) a-ne) in
-      omega (arith, o .k-lt)
+  pub first-term : {k i : ℕ} → InverseAt s k (getD b (lb - 1) 0) → i ≡ logarithm s (getD a (la - 1) 0)
+      → Cancels s (i + k) (getD a (la - 1) 0) (getD b (lb - 1) 0)
+  first-term o e = by-inverse (p .tables .degree) o (p .a-small .at (la - 1)) leading-ne e
 
-  pub addable-a : Addable s (la - lb) (i + k) lb a b e g
-  addable-a = record {
-    tables = p .tables;
-    k-most = quotient-lt;
-    a-small = p .a-small;
-    b-small = p .b-small;
-    b-short = p .b-length .short;
-    a-long = omega (arith, p .a-long);
-    b-long = p .b-long;
-  }
+  pub only-term : {x q : ℕ} → x ∷ [] ≡ quotients s (getD a (la - 1) 0) (getD b (lb - 1) 0) → q ≡ logarithm s x
+      → Cancels s q (getD a (la - 1) 0) (getD b (lb - 1) 0)
+  only-term = by-quotient (p .tables .degree) (p .a-small .at (la - 1)) leading-ne (p .b-small .at (lb - 1)) (p .b-length .leading (p .b-pos))
 
-  pub addable-w : Addable s (la - lb) (i + k) lv w v e g
-  addable-w = record {
-    tables = p .tables;
-    k-most = quotient-lt;
-    a-small = p .w-small;
-    b-small = p .v-small;
-    b-short = p .v-short;
-    a-long = omega (arith, p .w-long);
-    b-long = p .v-long;
-  }
+  pub quotient-there : [] ≡ quotients s (getD a (la - 1) 0) (getD b (lb - 1) 0) → ⊥
+  quotient-there e =
+      inverse-there (p .tables .degree) (p .b-small .at (lb - 1)) (p .b-length .leading (p .b-pos)) (no-quotient s _ _ e)
 
-  pub leading-below : Below (GF d) (suc (la - 1)) (series d a)
-  leading-below = below-of d (omega arith) (p .a-length .short)
+  module _ {q : ℕ} (o : Cancels s q (getD a (la - 1) 0) (getD b (lb - 1) 0)) where
+    pub addable-a : Addable s (la - lb) q lb a b e g
+    addable-a = record {
+      tables = p .tables;
+      k-most = o .most;
+      a-small = p .a-small;
+      b-small = p .b-small;
+      b-short = p .b-length .short;
+      a-long = omega (arith, p .a-long);
+      b-long = p .b-long;
+    }
 
-  pub leading-is : series d a (la - 1) ≡ el d (fieldPower s ω i)
-  unfolding series
-  leading-is = sym (ap (el d) (ap (fieldPower s ω) i-is ∙ logarithm-is d _ (p .a-small .at (la - 1)) a-ne))
+    pub addable-w : Addable s (la - lb) q lv w v e g
+    addable-w = record {
+      tables = p .tables;
+      k-most = o .most;
+      a-small = p .w-small;
+      b-small = p .v-small;
+      b-short = p .v-short;
+      a-long = omega (arith, p .w-long);
+      b-long = p .v-long;
+    }
 
-  pub cancelled : {a′ : List ℕ} → Added s (la - lb) (i + k) a b a′ → Short (la - 1) a′
-  cancelled z =
-      short-of d (z .small) (subst (Below (GF d) (la - 1)) (sym (z .is d)) (struck p o d i (la - lb) (omega arith) leading-below leading-is))
+    pub cancelled : {a′ : List ℕ} → Added s (la - lb) q a b a′ → Short (la - 1) a′
+    unfolding series
+    cancelled z =
+        let d = p .tables .degree in
+        short-of d (z .small)
+        (subst (Below (GF d) (la - 1)) (sym (z .is d)) (struck p o d (la - lb) (omega (arith, p .b-pos)) (leading-below d) refl))
 
-  pub reduced-one : {a′ w′ : List ℕ} {r : ℕ} → Added s (la - lb) (i + k) a b a′ → Added s (la - lb) (i + k) w v w′ → LengthOf a′ r
-      → Reduced s (la - lb) a b w v a′ w′ r
-  reduced-one x y h = record {
-    a-small = x .small;
-    w-small = y .small;
-    division = λ d. record {
-      quotient = mono (GF d) (la - lb) (el d (fieldPower s ω (i + k)));
-      quotient-below = mono-below (GF d) (la - lb) _;
-      a-is = x .is d;
-      w-is = y .is d;
-    };
-    a-length = h;
-  }
+    pub reduced-one : {a′ w′ : List ℕ} {r : ℕ} → Added s (la - lb) q a b a′ → Added s (la - lb) q w v w′ → LengthOf a′ r
+        → Reduced s (la - lb) a b w v a′ w′ r
+    reduced-one x y h = record {
+      a-small = x .small;
+      w-small = y .small;
+      division = λ d. record {
+        quotient = mono (GF d) (la - lb) (el d (fieldPower s ω q));
+        quotient-below = mono-below (GF d) (la - lb) _;
+        a-is = x .is d;
+        w-is = y .is d;
+      };
+      a-length = h;
+    }
 
 -- ---- terms in turn
 none-added : {A : Type 0} (R : Ring A) (p r : A) → p ≡ R .add p (R .mul (R .𝟘) r)

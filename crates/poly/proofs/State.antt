@@ -3,7 +3,7 @@
 --   State s l S a b v w e g la lb lv lw      they are rows on x^l and S; a and b have the lengths la and lb, and w and v
 --                     at most lw and lv coefficients
 --   state-start       the rows x^l with 0, and S with 1
---   room, reducible   their lengths are such that the first can be divided by the second
+--   cofactors-fit, reducible   their lengths are such that the first can be divided by the second
 --   state-turn        it is divided, and they change places
 --   solved, outcome-v, outcome-w      the cofactor of a remainder that is short enough is the solution
 use mathlib.Core.Path.{_≡_, refl, sym, ap, _∙_, subst}
@@ -19,7 +19,7 @@ use Rattle.field.specs.Field.{Degree}
 use Rattle.field.proofs.Elements.{GF}
 use Rattle.field.proofs.Numbers.{one-lt}
 use Rattle.field.proofs.Search.{true-ne-false}
-use Rattle.tables.specs.Tables.{Tables}
+use Rattle.field.specs.Tables.{Tables}
 use Rattle.poly.specs.Slice.{Small, Short, series}
 use Rattle.poly.specs.Division.{LengthOf, Reducible, Reduced}
 use Rattle.poly.specs.Key.{Solvable, Solved, Outcome}
@@ -52,8 +52,8 @@ module _ {s l la lb lv lw : ℕ} {S a b v w e g : List ℕ} (z : State s l S a b
       let q : suc (lv - 1) ≡ lv = omega (arith, z .v-pos) in
       short-of d (z .v-small) (subst (λ (n : ℕ). Below (GF d) n (series d v)) q (z .rows d .t₁-below))
 
-  pub room : lv + la ≤ l + 2
-  room = omega (arith, z .rows (z .tables .degree) .fit₁, z .v-pos)
+  pub cofactors-fit : lv + la ≤ l + 2
+  cofactors-fit = omega (arith, z .rows (z .tables .degree) .fit₁, z .v-pos)
 
   pub reducible : 0 < lb → Reducible s la lb lv a b w v e g
   reducible h = record {
@@ -68,8 +68,8 @@ module _ {s l la lb lv lw : ℕ} {S a b v w e g : List ℕ} (z : State s l S a b
     v-short = v-short;
     a-long = omega (arith, z .a-most, z .a-long);
     b-long = omega (arith, z .a-most, z .b-shorter, z .b-long);
-    v-long = omega (arith, room, z .b-shorter, z .v-long);
-    w-long = omega (arith, room, z .b-shorter, z .w-long);
+    v-long = omega (arith, cofactors-fit, z .b-shorter, z .v-long);
+    w-long = omega (arith, cofactors-fit, z .b-shorter, z .w-long);
   }
 
   pub state-turn : {r : ℕ} {a′ w′ : List ℕ} → r < lb → length a′ ≡ length a → length w′ ≡ length w
@@ -110,7 +110,7 @@ module _ {s l la lb lv lw : ℕ} {S a b v w e g : List ℕ} (z : State s l S a b
     small = z .v-small;
     short = v-short;
     pos = z .v-pos;
-    long = omega (arith, room, z .v-long);
+    long = omega (arith, cofactors-fit, z .v-long);
     key = λ d. record {
       done = record { t = _; r = _; t′ = _; r′ = _; n′ = _; e′ = _; n = _; e = _; rows = z .rows d; short = lo; long = hi };
       is = refl;

@@ -18,11 +18,11 @@ use Rattle.field.specs.Mask.{_⊕_}
 use Rattle.field.specs.Field.{Degree, ω, fieldMultiply, fieldPower, logarithm}
 use Rattle.field.proofs.Xor.{⊕-lt}
 use Rattle.field.proofs.Elements.{F, GF, el, el-add, el-mul}
-use Rattle.field.proofs.Numbers.{product-lt, logarithm-lt, logarithm-is}
+use Rattle.field.proofs.Numbers.{product-lt}
 use Rattle.poly.specs.Slice.{Short, series}
-use Rattle.poly.specs.Division.{plus, Addable, AddedTwo, LengthOf, InverseAt, Second, Reducible, Reduced}
+use Rattle.poly.specs.Division.{plus, Addable, AddedTwo, LengthOf, InverseAt, Cancels, Second, Reducible, Reduced}
 use Rattle.poly.proofs.Slices.{short-of}
-use Rattle.poly.proofs.Reducing.{addable-a, addable-w, struck, leading-below, leading-is, more-added}
+use Rattle.poly.proofs.Reducing.{by-inverse, first-term, addable-a, addable-w, struck, leading-below, more-added}
 
 pub second-is : {s k la lb y : ℕ} {a b : List ℕ} → lb < la → 1 < lb → y ≡ fieldMultiply s (fieldPower s ω k) (getD b (lb - 2) 0)
     → Second s k la lb a b (bitXor (getD a (la - 2) 0) y)
@@ -35,6 +35,9 @@ module _ {s la lb lv k : ℕ} {a b w v e g : List ℕ} (p : Reducible s la lb lv
   abbrev d : Degree s
   d = p .tables .degree
 
+  one : Cancels s (i₁ + k) (getD a (la - 1) 0) (getD b (lb - 1) 0)
+  one = first-term p l o i₁-is
+
   pub second-lt : y < 2 ^ s
   second-lt =
       subst (λ (x : ℕ). x < 2 ^ s) (sym (t .is)) (⊕-lt s _ _ (p .a-small .at (la - 2)) (product-lt d _ _ refl))
@@ -43,22 +46,23 @@ module _ {s la lb lv k : ℕ} {a b w v e g : List ℕ} (p : Reducible s la lb lv
   up = omega (arith, t .longer)
 
   pub two-addable-a : Addable s (la - lb - 1 + 1) (i₁ + k) lb a b e g
-  two-addable-a = subst (λ (j : ℕ). Addable s j (i₁ + k) lb a b e g) up (addable-a p l o i₁-is)
+  two-addable-a = subst (λ (j : ℕ). Addable s j (i₁ + k) lb a b e g) up (addable-a p l one)
 
   pub two-addable-w : Addable s (la - lb - 1 + 1) (i₁ + k) lv w v e g
-  two-addable-w = subst (λ (j : ℕ). Addable s j (i₁ + k) lv w v e g) up (addable-w p l o i₁-is)
+  two-addable-w = subst (λ (j : ℕ). Addable s j (i₁ + k) lv w v e g) up (addable-w p l one)
 
   module _ (y-ne : y ≢ 0) {i₀ : ℕ} (i₀-is : i₀ ≡ logarithm s y) where
+    two : Cancels s (i₀ + k) y (getD b (lb - 1) 0)
+    two = by-inverse d o second-lt y-ne i₀-is
+
     pub second-log-lt : i₀ + k ≤ 2 * (2 ^ s - 1)
-    second-log-lt =
-        let h : i₀ < 2 ^ s - 1 = subst (λ (j : ℕ). j < 2 ^ s - 1) (sym i₀-is) (logarithm-lt d y second-lt y-ne) in
-        omega (arith, o .k-lt)
+    second-log-lt = two .most
 
     pub cancelled-two : {a′ : List ℕ} → AddedTwo s (la - lb - 1) (i₀ + k) (i₁ + k) a b a′ → Short (la - 2) a′
     unfolding series
     cancelled-two {a′} z =
         short-of d (z .small)
-        (subst (Below (GF d) (la - 2)) (sym (z .is d)) (struck p o d i₀ (la - lb - 1) (omega (arith, t .longer, t .b-two)) mid-below mid-top))
+        (subst (Below (GF d) (la - 2)) (sym (z .is d)) (struck p two d (la - lb - 1) (omega (arith, t .longer, t .b-two)) mid-below mid-at))
       where
         mid : ℕ → F s
         mid = plus d (series d a) (mono (GF d) (la - lb - 1 + 1) (el d (fieldPower s ω (i₁ + k)))) (series d b)
@@ -66,7 +70,7 @@ module _ {s la lb lv k : ℕ} {a b w v e g : List ℕ} (p : Reducible s la lb lv
         mid-below : Below (GF d) (suc (la - 2)) mid
         mid-below =
             Below·weaken (GF d) (omega arith)
-            (struck p o d i₁ (la - lb - 1 + 1) {m = la - 1} (omega (arith, t .longer)) (leading-below p l o i₁-is) (leading-is p l o i₁-is))
+            (struck p one d (la - lb - 1 + 1) {m = la - 1} (omega (arith, t .longer)) (leading-below p l d) refl)
 
         mid-at : mid (la - 2) ≡ el d y
         mid-at =
@@ -77,9 +81,6 @@ module _ {s la lb lv k : ℕ} {a b w v e g : List ℕ} (p : Reducible s la lb lv
             ∙ mono-mul-at (GF d) (la - lb - 1 + 1) (el d (fieldPower s ω (i₁ + k))) (series d b) (lb - 2)
             ∙ sym (el-mul d (fieldPower s ω (i₁ + k)) (getD b (lb - 2) 0)))
             ∙ sym (el-add d (getD a (la - 2) 0) _) ∙ ap (el d) (sym (t .is))
-
-        mid-top : mid (la - 2) ≡ el d (fieldPower s ω i₀)
-        mid-top = mid-at ∙ sym (ap (el d) (ap (fieldPower s ω) i₀-is ∙ logarithm-is d y second-lt y-ne))
 
   pub reduced-two : {i₀ r : ℕ} {a′ w′ : List ℕ} → AddedTwo s (la - lb - 1) i₀ (i₁ + k) a b a′
       → AddedTwo s (la - lb - 1) i₀ (i₁ + k) w v w′ → LengthOf a′ r → Reduced s (la - lb) a b w v a′ w′ r

@@ -1,4 +1,4 @@
--- Division of polynomials in slices, with cofactors. A row of Euclid's algorithm is a remainder and its cofactor.
+-- RowDivision of polynomials in slices, with cofactors. A row of Euclid's algorithm is a remainder and its cofactor.
 --
 --   plus d p q r              the series p + q r
 --   Addable s i k n a b e g   what adding ω^k x^i b to a asks for, where b has n coefficients
@@ -6,9 +6,10 @@
 --   AddedTwo s i k₀ k₁ a b a′ a′ = a + (ω^k₁ x + ω^k₀) x^i b
 --   LengthOf a r              r is one more than the degree of a, and 0 where a is 0
 --   InverseAt s k c           ω^k is the inverse of c
+--   Cancels s q a b           ω^q is the quotient a / b, and q at most a sum of two logarithms
 --   Second s k la lb a b c    c is the second coefficient from the top of a + ω^k x^(la - lb) b, and a is longer than b
 --   Reducible ..              the row (a, w) can be divided by the row (b, v)
---   Division d k ..           one hidden quotient, of degree at most k, leads from (a, w) to (a′, w′)
+--   RowDivision d k ..           one hidden quotient, of degree at most k, leads from (a, w) to (a′, w′)
 --   Reduced ..                what that leaves, and the length r of a′
 use mathlib.Core.Path.{_≡_}
 use mathlib.Core.Logic.{_≢_}
@@ -20,7 +21,7 @@ use Rattle.algebra.proofs.Poly.{Below, mono}
 use Rattle.field.specs.Mask.{_⊕_}
 use Rattle.field.specs.Field.{Degree, ω, fieldMultiply, fieldPower}
 use Rattle.field.proofs.Elements.{F, GF, el}
-use Rattle.tables.specs.Tables.{Tables}
+use Rattle.field.specs.Tables.{Tables}
 use Rattle.poly.specs.Slice.{Small, Short, series}
 
 abbrev pub plus : {s : ℕ} → Degree s → (ℕ → F s) → (ℕ → F s) → (ℕ → F s) → ℕ → F s
@@ -55,6 +56,10 @@ pub record InverseAt (s k c : ℕ) : Type 0 where
   pub k-lt : k < 2 ^ s - 1
   pub is : fieldMultiply s (fieldPower s ω k) c ≡ 1
 
+pub record Cancels (s q a b : ℕ) : Type 0 where
+  pub most : q ≤ 2 * (2 ^ s - 1)
+  pub is : fieldMultiply s (fieldPower s ω q) b ≡ a
+
 pub record Second (s k la lb : ℕ) (a b : List ℕ) (c : ℕ) : Type 0 where
   pub longer : lb < la
   pub b-two : 1 < lb
@@ -76,7 +81,7 @@ pub record Reducible (s la lb lv : ℕ) (a b w v e g : List ℕ) : Type 0 where
   pub v-long : lv ≤ length v
   pub w-long : la + lv ≤ length w + lb
 
-pub record Division {s : ℕ} (d : Degree s) (k : ℕ) (a b w v a′ w′ : List ℕ) : Type 0 where
+pub record RowDivision {s : ℕ} (d : Degree s) (k : ℕ) (a b w v a′ w′ : List ℕ) : Type 0 where
   pub quotient : ℕ → F s
   pub quotient-below : Below (GF d) (suc k) quotient
   pub a-is : series d a′ ≡ plus d (series d a) quotient (series d b)
@@ -85,5 +90,5 @@ pub record Division {s : ℕ} (d : Degree s) (k : ℕ) (a b w v a′ w′ : List
 pub record Reduced (s k : ℕ) (a b w v a′ w′ : List ℕ) (r : ℕ) : Type 0 where
   pub a-small : Small s a′
   pub w-small : Small s w′
-  pub division : (d : Degree s) → Division d k a b w v a′ w′
+  pub division : (d : Degree s) → RowDivision d k a b w v a′ w′
   pub a-length : LengthOf a′ r

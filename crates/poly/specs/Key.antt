@@ -12,7 +12,7 @@ use lib.ListN.{length}
 use Rattle.algebra.proofs.Rows.{Done}
 use Rattle.field.specs.Field.{Degree}
 use Rattle.field.proofs.Elements.{GF}
-use Rattle.tables.specs.Tables.{Tables}
+use Rattle.field.specs.Tables.{Tables}
 use Rattle.poly.specs.Slice.{Small, Short, series}
 
 pub record Solvable (s l stop : ℕ) (a b v w e g : List ℕ) : Type 0 where

@@ -1,5 +1,5 @@
-// Where Euclid's algorithm leaves the locator: in the second of two slices or in the first, and how many coefficients it has.
-pub struct Locator {
-    pub second: bool,
+// Where Euclid's algorithm leaves the locator: as the cofactor of the upper row or of the lower one, and how many coefficients it has.
+pub struct LocatorRow {
+    pub upper: bool,
     pub len: usize,
 }

@@ -1,4 +1,4 @@
 -- Why each condition of a sheet is what the code finds.
-pub mod Header
+pub mod Headed
 pub mod Marking
 pub mod Listed

@@ -1,7 +1,7 @@
 -- The loop over the representatives: refusal 5, and D marked coset by coset.
 --
 --   rep-at                      representative i is byte 10 + i
---   Listed sheet i least z      the first i representatives are right, and z marks their cosets
+--   MarkedUpTo sheet i least z      the first i representatives are right, and z marks their cosets
 --   listed-start, listed-more, listed-end      the loop
 --   wrong-range, wrong-order, wrong-coset      its exits
 --   Walk, walk-start .. walk-end      the same with the code's locals
@@ -24,7 +24,7 @@ use Rattle.field.proofs.Search.{some-of, some-false, some-append}
 use Rattle.document.specs.Sheet.{byteAt, codeLength, representativeCount, representatives}
 use Rattle.document.specs.Coset.{inCoset, smallest, inSet}
 use Rattle.document.specs.Judge.{wrongRepresentative}
-use Rattle.sheet.specs.Stage.{Headed, Marks, Marked, Found, bit}
+use Rattle.sheet.specs.Stage.{Headed, Marks, Marked, SetMarked, bit}
 
 abbrev rep : List ℕ → ℕ → ℕ
 rep sheet i = getD (representatives sheet) i 0
@@ -51,13 +51,13 @@ module _ {sheet : List ℕ} (H : Headed sheet) where
   unfolding representatives
   reps-long = length-take-le (representativeCount sheet) (drop 10 sheet) long
 
-  pub record Listed (i least : ℕ) (z : List ℕ) : Type 0 where
+  pub record MarkedUpTo (i least : ℕ) (z : List ℕ) : Type 0 where
     pub right : (k : ℕ) → k < i → wrong sheet k ≡ false
     pub first : i ≡ 0 → least ≡ 0
     pub later : 0 < i → least ≡ suc (rep sheet (i - 1))
     pub marks : Marks (codeLength sheet) (take i (representatives sheet)) z
 
-  pub listed-start : {z : List ℕ} → Marks (codeLength sheet) [] z → Listed 0 0 z
+  pub listed-start : {z : List ℕ} → Marks (codeLength sheet) [] z → MarkedUpTo 0 0 z
   listed-start m = record {
     right = λ k h. absurd (omega arith);
     first = λ e. refl;
@@ -82,7 +82,7 @@ module _ {sheet : List ℕ} (H : Headed sheet) where
       (ap (λ b. not (ltb (rep sheet i) (codeLength sheet)) || not b || (leb 1 i && not (ltb (rep sheet (i - 1)) (rep sheet i)))) e
       ∙ ap (λ b. b || (leb 1 i && not (ltb (rep sheet (i - 1)) (rep sheet i)))) (or-true (not (ltb (rep sheet i) (codeLength sheet)))))
 
-  pub wrong-order : {i least : ℕ} {z : List ℕ} → i < representativeCount sheet → Listed i least z → rep sheet i < least
+  pub wrong-order : {i least : ℕ} {z : List ℕ} → i < representativeCount sheet → MarkedUpTo i least z → rep sheet i < least
       → true ≡ wrongRepresentative sheet
   wrong-order {i} {least} h v l =
       let p : 0 < i = pos (ℕ-discrete i 0) in
@@ -96,7 +96,7 @@ module _ {sheet : List ℕ} (H : Headed sheet) where
       pos (yes e) = let z : least ≡ 0 = v .first e in absurd (omega arith)
       pos (no e) = omega arith
 
-  right-one : {i least : ℕ} {z : List ℕ} → Listed i least z → rep sheet i < codeLength sheet → least ≤ rep sheet i
+  right-one : {i least : ℕ} {z : List ℕ} → MarkedUpTo i least z → rep sheet i < codeLength sheet → least ≤ rep sheet i
       → smallest (codeLength sheet) (rep sheet i) ≡ true → wrong sheet i ≡ false
   right-one {i} {least} v a b c =
       ap₂ (λ x y. not x || not y || (leb 1 i && not (ltb (rep sheet (i - 1)) (rep sheet i)))) (lt-ltb (rep sheet i) (codeLength sheet) a) c
@@ -116,9 +116,9 @@ module _ {sheet : List ℕ} (H : Headed sheet) where
       or-false true = refl
       or-false false = refl
 
-  pub listed-more : {i least low : ℕ} {z z′ : List ℕ} → i < representativeCount sheet → Listed i least z
+  pub listed-more : {i least low : ℕ} {z z′ : List ℕ} → i < representativeCount sheet → MarkedUpTo i least z
       → rep sheet i < codeLength sheet → least ≤ rep sheet i → length z′ ≡ length z → Marked (codeLength sheet) (rep sheet i) z z′ low → low ≡ 0
-      → Listed (i + 1) (rep sheet i + 1) z′
+      → MarkedUpTo (i + 1) (rep sheet i + 1) z′
   listed-more {i} {least} {low} {z} {z′} h v a b same m e = record {
     right = λ k l. elim (ℕ-discrete k i) [
       | yes q ↦ subst (λ (x : ℕ). wrong sheet x ≡ false) (sym q) (right-one v a b (m .is-smallest e))
@@ -152,14 +152,14 @@ module _ {sheet : List ℕ} (H : Headed sheet) where
           or-false true = refl
           or-false false = refl
 
-  pub listed-end : {i least : ℕ} {z : List ℕ} → i ≡ representativeCount sheet → Listed i least z → Found sheet z false
+  pub listed-end : {i least : ℕ} {z : List ℕ} → i ≡ representativeCount sheet → MarkedUpTo i least z → SetMarked sheet z false
   unfolding representatives
   listed-end {i} {least} {z} e v = record {
     is = sym (wrong-is sheet ∙ some-false (wrong sheet) (representativeCount sheet) (λ k h. v .right k (omega arith)));
     marks = λ q. subst (λ l. Marks (codeLength sheet) l z) (take-all i (representatives sheet) (omega (arith, reps-long))) (v .marks);
   }
 
-  pub refuse : {z : List ℕ} → true ≡ wrongRepresentative sheet → Found sheet z true
+  pub refuse : {z : List ℕ} → true ≡ wrongRepresentative sheet → SetMarked sheet z true
   refuse e = record { is = e; marks = λ q. let z : _≡_ {A = ℕ} 0 1 = cc in absurd (omega arith) }
 
 -- ---- the loop, with the code's locals: n, s and count are the sheet's
@@ -168,7 +168,7 @@ pub record Walk (sheet : List ℕ) (n s count i least : ℕ) (z : List ℕ) : Ty
   pub n-is : n ≡ codeLength sheet
   pub s-is : s ≡ orderOfTwo n
   pub count-is : count ≡ representativeCount sheet
-  pub listed : Listed head i least z
+  pub listed : MarkedUpTo head i least z
 
 module _ {sheet : List ℕ} {n s count : ℕ} where
   pub walk-start : {z : List ℕ} → Headed sheet → n ≡ codeLength sheet → s ≡ orderOfTwo n → count ≡ representativeCount sheet → Marks n [] z
@@ -188,12 +188,12 @@ module _ {sheet : List ℕ} {n s count : ℕ} where
     read : {r : ℕ} → i < count → r ≡ byteAt sheet (10 + i) → r ≡ rep sheet i
     read h e = e ∙ sym (rep-at (w .head) (omega (arith, w .count-is)))
 
-    pub walk-range : {r : ℕ} → i < count → r ≡ byteAt sheet (10 + i) → n ≤ r → Found sheet z true
+    pub walk-range : {r : ℕ} → i < count → r ≡ byteAt sheet (10 + i) → n ≤ r → SetMarked sheet z true
     walk-range h e l =
         let q = read h e in
         refuse (w .head) (wrong-range (w .head) {i = i} (omega (arith, w .count-is)) (omega (arith, q, w .n-is)))
 
-    pub walk-order : {r : ℕ} → i < count → r ≡ byteAt sheet (10 + i) → r < least → Found sheet z true
+    pub walk-order : {r : ℕ} → i < count → r ≡ byteAt sheet (10 + i) → r < least → SetMarked sheet z true
     walk-order h e l =
         let q = read h e in refuse (w .head) (wrong-order (w .head) (omega (arith, w .count-is)) (w .listed) (omega (arith, q)))
 
@@ -210,7 +210,7 @@ module _ {sheet : List ℕ} {n s count : ℕ} where
         subst (λ (x : ℕ). Marked x (rep sheet i) z z′ low) (w .n-is) (subst (λ (x : ℕ). Marked n x z z′ low) (read h e) m)
 
     pub walk-coset : {r low : ℕ} {z′ : List ℕ} → i < count → r ≡ byteAt sheet (10 + i) → Marked n r z z′ low → low ≢ 0
-        → Found sheet z′ true
+        → SetMarked sheet z′ true
     walk-coset h e m k =
         refuse (w .head) (wrong-coset (w .head) (omega (arith, w .count-is)) (marked h e m .not-smallest k))
 
@@ -223,9 +223,9 @@ module _ {sheet : List ℕ} {n s count : ℕ} where
           n-is = w .n-is;
           s-is = w .s-is;
           count-is = w .count-is;
-          listed = subst (λ (x : ℕ). Listed (w .head) (i + 1) (x + 1) z′) (sym q)
+          listed = subst (λ (x : ℕ). MarkedUpTo (w .head) (i + 1) (x + 1) z′) (sym q)
               (listed-more (w .head) (omega (arith, w .count-is)) (w .listed) (omega (arith, q, w .n-is)) (omega (arith, q)) same (marked h e m) k);
         }
 
-    pub walk-end : count ≤ i → i ≤ count → Found sheet z false
+    pub walk-end : count ≤ i → i ≤ count → SetMarked sheet z false
     walk-end a b = listed-end (w .head) (omega (arith, w .count-is)) (w .listed)

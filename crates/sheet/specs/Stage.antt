@@ -3,7 +3,7 @@
 --   Headed sheet       what the header of a sheet that draws none of 1 to 4 satisfies
 --   Marks n reps z     z holds 1 at each member of D, else 0
 --   Marked n r z z′ low      z′ is z with the coset of r marked; low is 0 exactly where r is its smallest
---   Found sheet z wrong      whether refusal 5 is drawn; where it is not, z marks D
+--   SetMarked sheet z wrong      whether refusal 5 is drawn; where it is not, z marks D
 use mathlib.Core.Path.{_≡_}
 use mathlib.Core.Bool.{Bool, true, false}
 use mathlib.Core.List.{List}
@@ -11,7 +11,7 @@ use Prim.Native.Nat.{ℕ, _+_, _*_, _%_, _≤_, _<_}
 use lib.Dec.{ltb}
 use lib.ListN.{length, getD}
 use Rattle.field.specs.Field.{orderOfTwo}
-use Rattle.masks.specs.Factor.{degree}
+use Rattle.binary.specs.Factor.{degree}
 use Rattle.document.specs.Sheet.{codeLength, representativeCount, representatives, certificateCount}
 use Rattle.document.specs.Coset.{inCoset, smallest, inSet}
 use Rattle.document.specs.Judge.{wrongRepresentative}
@@ -44,6 +44,6 @@ pub record Marked (n r : ℕ) (z z′ : List ℕ) (low : ℕ) : Type 0 where
   pub is-smallest : low ≡ 0 → smallest n r ≡ true
   pub not-smallest : (low ≡ 0 → ⊥) → smallest n r ≡ false
 
-pub record Found (sheet z : List ℕ) (wrong : Bool) : Type 0 where
+pub record SetMarked (sheet z : List ℕ) (wrong : Bool) : Type 0 where
   pub is : wrong ≡ wrongRepresentative sheet
   pub marks : wrong ≡ false → Marks (codeLength sheet) (representatives sheet) z

@@ -15,11 +15,11 @@ use Rattle.field.specs.Mask.{_⊕_}
 use Rattle.field.specs.Field.{orderOfTwo, ω, α, fieldPower}
 use Rattle.field.proofs.Xor.{⊕-self, ⊕-eq}
 use Rattle.document.specs.Generator.{valueBelow, valueAt}
-use Rattle.theory.proofs.Demand2.{representatives-iff}
-use Rattle.evaluation.specs.Sums.{sumOver, Listed, Valuable}
-use Rattle.evaluation.proofs.Values.{value-of}
-use Rattle.evaluation.proofs.Roots.{root-by, value-all}
-use Rattle.syndrome.specs.Value.{valueOf, HeldAt, Evaluable, Comparable, Compared}
+use Rattle.document.proofs.Demand2.{representatives-iff}
+use Rattle.syndrome.specs.Sums.{sumOver, Listed, Valuable}
+use Rattle.syndrome.proofs.ValueSums.{value-of}
+use Rattle.syndrome.proofs.Roots.{root-by, value-all}
+use Rattle.syndrome.specs.Value.{valueOf, Comparable, Compared}
 use Rattle.syndrome.proofs.Setting.{long, at-in, in-at, by-lt, place-lt, value-add}
 
 module _ {n s m q : ℕ} {list reps val e : List ℕ} (p : Comparable n s m list reps val e) (q-is : q ≡ (2 ^ s - 1) / n) where

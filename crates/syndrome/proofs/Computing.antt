@@ -23,13 +23,13 @@ use Rattle.field.specs.Field.{orderOfTwo, ω, α, fieldPower}
 use Rattle.field.proofs.Search.{true-ne-false}
 use Rattle.field.proofs.Primitive.{Degree-bounds}
 use Rattle.document.specs.Generator.{valueBelow, valueAt}
-use Rattle.theory.proofs.Demand2.{representatives-iff}
+use Rattle.document.proofs.Demand2.{representatives-iff}
 use Rattle.binary.specs.Bits.{Holds}
-use Rattle.evaluation.specs.Columns.{Columnable, Columned, Summable, Valued}
-use Rattle.evaluation.proofs.Values.{value-of}
-use Rattle.evaluation.proofs.Roots.{root-by, value-all}
-use Rattle.evaluation.proofs.Horner.{run-below}
-use Rattle.syndrome.specs.Value.{valueOf, Evaluable, Computable, Computed, Tested}
+use Rattle.syndrome.specs.Columns.{Columnable, Columned, Summable, Valued}
+use Rattle.syndrome.proofs.ValueSums.{value-of}
+use Rattle.syndrome.proofs.Roots.{root-by, value-all}
+use Rattle.syndrome.proofs.Horner.{run-below}
+use Rattle.syndrome.specs.Value.{valueOf, Evaluable, Computable, Computed, ValuesTested}
 use Rattle.syndrome.proofs.Setting.{long, at-in, in-at, by-lt, place-lt}
 
 -- ---- a word in columns
@@ -103,7 +103,7 @@ testing-more {n} {s} {k} {r} {w} {reps} t e f = record {
 }
 
 pub testing-end : {n s k : ℕ} {w reps e : List ℕ} → Evaluable n s reps e → length reps ≤ k → Testing n s k w reps
-    → Tested n w reps true
+    → ValuesTested n w reps true
 testing-end {n} {s} {k} {w} {reps} p h t = record {
   is = λ c hc l.
       sym
@@ -114,7 +114,7 @@ testing-end {n} {s} {k} {w} {reps} p h t = record {
 }
 
 pub testing-wrong : {n s k r v : ℕ} {w reps e : List ℕ} → Evaluable n s reps e → k < length reps → r ≡ getD reps k 0 → v ≢ 0
-    → ((c : ℕ) → Holds c w → c < 2 ^ n → v ≡ valueOf n s c r) → Tested n w reps false
+    → ((c : ℕ) → Holds c w → c < 2 ^ n → v ≡ valueOf n s c r) → ValuesTested n w reps false
 testing-wrong {n} {s} {k} {r} {v} {w} {reps} p h e ne f = record {
   is = λ c hc l. no-word c (f c hc l) _ (λ y. representatives-iff (long p) reps c .0 y);
 }
@@ -130,7 +130,7 @@ testing-wrong {n} {s} {k} {r} {v} {w} {reps} p h e ne f = record {
 -- ---- the same beside the values: quiet as long as all are 0
 pub record Quiet (n s k : ℕ) (w reps : List ℕ) (quiet : Bool) : Type 0 where
   pub yes : quiet ≡ true → Testing n s k w reps
-  pub no : quiet ≡ false → Tested n w reps false
+  pub no : quiet ≡ false → ValuesTested n w reps false
 
 pub quiet-zero : {clean : Bool} {v : ℕ} → v ≡ 0 → clean ≡ clean && eqb v 0
 quiet-zero {clean} {v} z = sym (ap (λ b. clean && b) (eq-eqb v 0 z) ∙ and-true clean)
@@ -168,12 +168,12 @@ quiet-more {n} {s} {k} {r} {v} {w} {reps} {quiet = quiet} p h e f t = go quiet r
         record { yes = λ o. absurd (true-ne-false o refl); no = λ o. testing-wrong {k = k} p h e z f }
 
 pub quiet-end : {n s k : ℕ} {w reps e : List ℕ} {quiet : Bool} → Evaluable n s reps e → length reps ≤ k → Quiet n s k w reps quiet
-    → Tested n w reps quiet
+    → ValuesTested n w reps quiet
 quiet-end {n} {w = w} {reps} {quiet = quiet} p h t = go quiet refl
   where
-    go : (b : Bool) → quiet ≡ b → Tested n w reps quiet
-    go true q = subst (Tested n w reps) (sym q) (testing-end p h (t .yes q))
-    go false q = subst (Tested n w reps) (sym q) (t .no q)
+    go : (b : Bool) → quiet ≡ b → ValuesTested n w reps quiet
+    go true q = subst (ValuesTested n w reps) (sym q) (testing-end p h (t .yes q))
+    go false q = subst (ValuesTested n w reps) (sym q) (t .no q)
 
 -- ---- all that the loop over the representatives keeps; the columns were given as `room`
 pub record Values (n s b q count : ℕ) (w reps e g col val₀ val : List ℕ) (clean : Bool) (k : ℕ) : Type 0 where
@@ -241,6 +241,6 @@ module _ {n s b q count k : ℕ} {w reps e g col val₀ val : List ℕ} {clean :
       }
 
 pub values-end : {n s b q count k : ℕ} {w reps e g col val₀ val : List ℕ} {clean : Bool} → count ≤ k
-    → Values n s b q count w reps e g col val₀ val clean k → Computed n s w reps val × Tested n w reps clean
+    → Values n s b q count w reps e g col val₀ val clean k → Computed n s w reps val × ValuesTested n w reps clean
 values-end h t =
     (computing-end (omega (arith, t .count-is)) (t .computing), quiet-end (t .given .setting) (omega (arith, t .count-is)) (t .quiet))

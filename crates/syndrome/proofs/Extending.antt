@@ -8,8 +8,8 @@ use Prim.Native.Nat.{ℕ, _+_, _*_, _%_, _^_, _≤_, _<_}
 use native.Mathlib.Decide.{ℕ-discrete}
 use native.Mathlib.Omega.{arith}
 use lib.ListN.{length, getD}
-use Rattle.theory.proofs.Theory.{T-of, representatives}
-use Rattle.syndrome.specs.Value.{valueOf, HeldAt, Spreadable, Spread, Extendable, Extended}
+use Rattle.document.proofs.Theory.{T-of, representatives}
+use Rattle.syndrome.specs.Value.{valueOf, HeldAt, Conjugable, Conjugated, Extendable, Extended}
 use Rattle.syndrome.proofs.Setting.{long, in-at, value-lt}
 
 pub record Extending (n s k : ℕ) (reps val val′ : List ℕ) : Type 0 where
@@ -21,7 +21,7 @@ pub extending-start : {n s : ℕ} {reps val : List ℕ} → Extending n s 0 reps
 extending-start = record { held = λ c h. h; done = λ c h i j b. absurd (omega arith) }
 
 pub extending-more : {n s k r v : ℕ} {reps val val′ val″ : List ℕ} → Extending n s k reps val val′ → k < length reps → r ≡ getD reps k 0
-    → v ≡ getD val′ r 0 → Spread n s r v val′ val″ → Extending n s (k + 1) reps val val″
+    → v ≡ getD val′ r 0 → Conjugated n s r v val′ val″ → Extending n s (k + 1) reps val val″
 extending-more {n} {s} {k} {r} {v} {reps} {val} {val′} {val″} t b e f p = record {
   held = λ c h i l. p .kept c (here c h) (getD reps i 0) (t .held c h i l);
   done = λ c h i j l. elim (ℕ-discrete i k) [
@@ -35,7 +35,7 @@ extending-more {n} {s} {k} {r} {v} {reps} {val} {val′} {val″} t b e f p = re
     here c h = f ∙ ap (λ (x : ℕ). getD val′ x 0) e ∙ t .held c h k b ∙ ap (valueOf n s c) (sym e)
 
 pub spreadable : {n s k r v : ℕ} {reps e g val val′ : List ℕ} → Extendable n s reps e g val → Extending n s k reps val val′ → k < length reps
-    → r ≡ getD reps k 0 → v ≡ getD val′ r 0 → length val′ ≡ length val → Spreadable n s r v e g val′
+    → r ≡ getD reps k 0 → v ≡ getD val′ r 0 → length val′ ≡ length val → Conjugable n s r v e g val′
 spreadable {n} {s} {k} {r} {v} {reps} {val′ = val′} p t h a f l = record {
   odd = p .setting .odd;
   s-is = p .setting .s-is;

@@ -19,9 +19,9 @@ use Rattle.field.proofs.Value.{value-add as ring-value-add}
 use Rattle.field.proofs.Xor.{⊕-lt}
 use Rattle.document.specs.Generator.{valueAt}
 use Rattle.document.specs.Coset.{inSet}
-use Rattle.theory.proofs.Theory.{Length, of-T, representatives}
-use Rattle.theory.proofs.Demand2.{below-lt, value-is}
-use Rattle.evaluation.proofs.Roots.{q-pos, root-lt}
+use Rattle.document.proofs.Theory.{Length, of-T, representatives}
+use Rattle.document.proofs.Demand2.{below-lt, value-is}
+use Rattle.syndrome.proofs.Roots.{q-pos, root-lt}
 use Rattle.syndrome.specs.Value.{Evaluable}
 
 pub long : {n s : ℕ} {reps e : List ℕ} → Evaluable n s reps e → Length n

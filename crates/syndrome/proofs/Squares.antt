@@ -18,9 +18,9 @@ use Rattle.field.proofs.Value.{value}
 use Rattle.cyclic.proofs.Coset as Coset
 use Rattle.document.specs.Generator.{valueAt}
 use Rattle.document.proofs.Cosets.{turn-back, walk-start, walk-more}
-use Rattle.theory.proofs.Theory.{degree, root-mod}
-use Rattle.theory.proofs.Demand2.{value-is}
-use Rattle.syndrome.specs.Value.{valueOf, Spreadable, Spread}
+use Rattle.document.proofs.Theory.{degree, root-mod}
+use Rattle.document.proofs.Demand2.{value-is}
+use Rattle.syndrome.specs.Value.{valueOf, Conjugable, Conjugated}
 use Rattle.syndrome.proofs.Setting.{value-lt}
 
 pub value-square : {s : ℕ} (d : Degree s) (a c : ℕ)
@@ -55,7 +55,7 @@ pub record Turning (n s r v j x y : ℕ) (val val′ : List ℕ) : Type 0 where
   pub done : (c : ℕ) → v ≡ valueOf n s c r → (k : ℕ) → k < j → getD val′ (r * 2 ^ k % n) 0 ≡ valueOf n s c (r * 2 ^ k % n)
   pub kept : (c : ℕ) → v ≡ valueOf n s c r → (i : ℕ) → getD val i 0 ≡ valueOf n s c i → getD val′ i 0 ≡ valueOf n s c i
 
-pub turning-start : {n s r v : ℕ} {e g val : List ℕ} → Spreadable n s r v e g val → Turning n s r v 0 r v val val
+pub turning-start : {n s r v : ℕ} {e g val : List ℕ} → Conjugable n s r v e g val → Turning n s r v 0 r v val val
 turning-start p = record {
   x-is = walk-start (p .r-lt);
   x-lt = p .r-lt;
@@ -65,7 +65,7 @@ turning-start p = record {
   kept = λ c h i q. q;
 }
 
-pub turning-more : {n s r v j x y x′ y′ : ℕ} {e g val val′ : List ℕ} → Spreadable n s r v e g val → Turning n s r v j x y val val′
+pub turning-more : {n s r v j x y x′ y′ : ℕ} {e g val val′ : List ℕ} → Conjugable n s r v e g val → Turning n s r v j x y val val′
     → x < length val′ → x′ ≡ x * 2 % n → x′ < n → y′ ≡ fieldMultiply s y y
     → Turning n s r v (j + 1) x′ y′ val (set val′ x y)
 turning-more {n} {s} {r} {v} {j} {x} {y} {x′} {y′} {e} {g} {val} {val′} p t h a l b = record {
@@ -91,8 +91,8 @@ turning-more {n} {s} {r} {v} {j} {x} {y} {x′} {y′} {e} {g} {val} {val′} p 
       | no w ↦ getD-set-other val′ x i y 0 w ∙ f
     ]
 
-pub turning-end : {n s r v j x y : ℕ} {e g val val′ : List ℕ} → Spreadable n s r v e g val → j ≡ s → Turning n s r v j x y val val′
-    → Spread n s r v val val′
+pub turning-end : {n s r v j x y : ℕ} {e g val val′ : List ℕ} → Conjugable n s r v e g val → j ≡ s → Turning n s r v j x y val val′
+    → Conjugated n s r v val val′
 turning-end {n} {s} {r} {v} {j} {x} {y} {e} {g} {val} {val′} p f t = record {
   all = λ c q k.
       let l : k % orderOfTwo n < orderOfTwo n = mod-lt k (order-pos n) in

@@ -5,18 +5,17 @@
 use mathlib.Core.Path.{_≡_, refl, sym, ap, ap₂, _∙_}
 use mathlib.Core.Logic.{_≢_}
 use mathlib.Core.List.{List}
-use Prim.Native.Nat.{ℕ, _+_, _*_, _/_, _%_, _≤_, _<_}
+use Prim.Native.Nat.{ℕ, _+_, _*_, _%_, _≤_, _<_}
 use native.Mathlib.Nat.{one-mul, zero-mul}
 use native.Mathlib.Decide.{ℕ-discrete}
 use native.Mathlib.Omega.{arith}
 use lib.ListN.{length, getD, set}
 use lib.Seq.{getD-set-same, getD-set-other}
-use Rattle.field.specs.Mask.{_⊕_}
-use Rattle.masks.specs.Factor.{terms}
+use Rattle.binary.specs.Factor.{terms}
 use Rattle.certificate.specs.declared.types.Certificate.{Certificate as CodeCertificate}
 use Rattle.certificate.specs.Rules.{Walkable, certificateAs}
 use Rattle.certificate.proofs.Terms.{At, term}
-use Rattle.syndrome.specs.Series.{Syndromes}
+use Rattle.syndrome.specs.Series.{SyndromesOf}
 
 pub term-one : (num y : ℕ) → num % 2 ≡ 1 → y ≡ (num % 2) * y
 term-one num y e = sym (ap (λ (d : ℕ). d * y) e ∙ one-mul y)
@@ -46,5 +45,5 @@ module _ {n j num at : ℕ} {c : CodeCertificate} {val : List ℕ} (w : Walkable
   }
 
 pub writing-end : {n j : ℕ} {c : CodeCertificate} {val out out′ : List ℕ} → c .terms ≤ j → j ≤ c .terms → Writing n c j val out out′
-    → Syndromes n (certificateAs c) val out out′
+    → SyndromesOf n (certificateAs c) val out out′
 writing-end h l t = record { at = λ i b. t .done i (omega arith); rest = λ i b. t .rest i (omega arith) }

@@ -3,8 +3,8 @@
 --   valueOf n s c i         the value of c at α^i
 --   Evaluable n s reps e    representatives, and the powers of ω
 --   Computable, Computed    the values at the representatives: what they need, and leave
---   Tested                  whether a word is a codeword, by these values
---   Spreadable, Spread      values along a coset: what it needs, and leaves
+--   ValuesTested                  whether a word is a codeword, by these values
+--   Conjugable, Conjugated      values along a coset: what it needs, and leaves
 --   Extendable, Extended    the same for all of D
 --   Comparable, Compared    whether a word is a codeword with listed places changed, by their values at the representatives
 use mathlib.Core.Path.{_≡_}
@@ -14,11 +14,11 @@ use Prim.Native.Nat.{ℕ, _+_, _-_, _*_, _/_, _%_, _^_, _≤_, _<_}
 use lib.ListN.{length, getD}
 use Rattle.field.specs.Mask.{_⊕_}
 use Rattle.field.specs.Field.{OddLength, orderOfTwo, α, fieldPower}
-use Rattle.tables.specs.Tables.{Powered, Tables}
+use Rattle.field.specs.Tables.{Powered, Tables}
 use Rattle.document.specs.Coset.{inSet, dimension}
 use Rattle.document.specs.Generator.{valueAt, generator, isCodeword}
 use Rattle.binary.specs.Bits.{Holds}
-use Rattle.evaluation.specs.Sums.{Listed}
+use Rattle.syndrome.specs.Sums.{Listed}
 
 -- the value at α^i of the mask c
 abbrev pub valueOf : ℕ → ℕ → ℕ → ℕ → ℕ
@@ -47,11 +47,11 @@ pub record Computable (n s : ℕ) (w reps e g col val : List ℕ) : Type 0 where
 pub record Computed (n s : ℕ) (w reps val : List ℕ) : Type 0 where
   pub at : (c : ℕ) → Holds c w → c < 2 ^ n → HeldAt n s c reps val
 
-pub record Tested (n : ℕ) (w reps : List ℕ) (r : Bool) : Type 0 where
+pub record ValuesTested (n : ℕ) (w reps : List ℕ) (r : Bool) : Type 0 where
   pub is : (c : ℕ) → Holds c w → c < 2 ^ n → r ≡ isCodeword (n - dimension n reps) (generator n reps) c
 
 -- ---- a coset
-pub record Spreadable (n s r v : ℕ) (e g val : List ℕ) : Type 0 where
+pub record Conjugable (n s r v : ℕ) (e g val : List ℕ) : Type 0 where
   pub odd : OddLength n
   pub s-is : s ≡ orderOfTwo n
   pub r-lt : r < n
@@ -60,7 +60,7 @@ pub record Spreadable (n s r v : ℕ) (e g val : List ℕ) : Type 0 where
   pub long : n ≤ length val
 
 -- along the coset of r the values of the mask whose value at α^r is v; and those that were there stay
-pub record Spread (n s r v : ℕ) (val val′ : List ℕ) : Type 0 where
+pub record Conjugated (n s r v : ℕ) (val val′ : List ℕ) : Type 0 where
   pub all : (c : ℕ) → v ≡ valueOf n s c r → (j : ℕ) → getD val′ (r * 2 ^ j % n) 0 ≡ valueOf n s c (r * 2 ^ j % n)
   pub kept : (c : ℕ) → v ≡ valueOf n s c r → (i : ℕ) → getD val i 0 ≡ valueOf n s c i → getD val′ i 0 ≡ valueOf n s c i
 

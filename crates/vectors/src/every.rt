@@ -4,10 +4,10 @@ ghost use Prim.Native.Nat.{_<_, _≤_};
 use crate::line::number;
 use crate::line::wide;
 use code::decode::decode;
+use code::refusal::refusal_number;
 use document::types::Refusal;
 use document::types::Reply;
 use libc::STDOUT_FILENO;
-use refusal::number::refusal_number;
 
 // A word has 3 bytes at most. More than 7 changed places would be counted with the refused.
 pub fn words_line(sheet: &[u8], n: usize) {

@@ -2,12 +2,12 @@
 use crate::line::number;
 use code::card::card;
 use code::judge::judge;
+use code::refusal::refusal_number;
 use document::types::Judged;
 use document::types::Record;
 use document::types::Refusal;
 use document::types::Reply;
 use libc::STDOUT_FILENO;
-use refusal::number::refusal_number;
 
 pub fn judge_line(sheet: &[u8]) {
     match judge(sheet) {

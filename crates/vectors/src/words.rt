@@ -4,9 +4,9 @@ use crate::line::number;
 use code::decode::decode;
 use code::encode::encode;
 use code::read::read;
+use code::refusal::refusal_number;
 use document::types::Reply;
 use libc::STDOUT_FILENO;
-use refusal::number::refusal_number;
 
 pub fn word_line(kind: u8, sheet: &[u8], input: &[u8], room: usize) {
     let mut out = [170u8; 20];

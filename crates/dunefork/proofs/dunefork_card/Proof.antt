@@ -7,7 +7,7 @@ use Rattle.dunefork.proofs.dunefork_card.Tie as tie
 use Rattle.dunefork.proofs.dunefork_card.Reads as reads
 use Rattle.dunefork.proofs.dunefork_card.Lts as lts
 use Rattle.code.proofs.card.card.Reads as card-reads
-use Rattle.codes.proofs.codes.refusal_code.Reads as refusal-code-reads
+use Rattle.dunefork.proofs.codes.refusal_code.Reads as refusal-code-reads
 
 card-requires : tie.Need-card-requires
 card-requires c κs = search needs

@@ -7,7 +7,7 @@ use Rattle.dunefork.proofs.dunefork_decode.Tie as tie
 use Rattle.dunefork.proofs.dunefork_decode.Reads as reads
 use Rattle.dunefork.proofs.dunefork_decode.Lts as lts
 use Rattle.code.proofs.decode.decode.Reads as decode-reads
-use Rattle.codes.proofs.codes.refusal_code.Reads as refusal-code-reads
+use Rattle.dunefork.proofs.codes.refusal_code.Reads as refusal-code-reads
 
 decode-requires : tie.Need-decode-requires
 decode-requires c κs = search needs

@@ -1,5 +1,4 @@
 -- `dunefork::dunefork_encode` meets its contract: the entry's answer as a code.
-use native.Mathlib.Omega.{arith}
 use Rattle.dunefork.proofs.Coded.{replied, coded-refused, encode-done}
 use borrow.Author.Needs.{needs}
 use Rattle.dunefork.proofs.dunefork_encode.Statement.{statement}
@@ -7,7 +6,7 @@ use Rattle.dunefork.proofs.dunefork_encode.Tie as tie
 use Rattle.dunefork.proofs.dunefork_encode.Reads as reads
 use Rattle.dunefork.proofs.dunefork_encode.Lts as lts
 use Rattle.code.proofs.encode.encode.Reads as encode-reads
-use Rattle.codes.proofs.codes.refusal_code.Reads as refusal-code-reads
+use Rattle.dunefork.proofs.codes.refusal_code.Reads as refusal-code-reads
 
 encode-requires : tie.Need-encode-requires
 encode-requires c κs = search needs

@@ -1,5 +1,4 @@
 -- `dunefork::dunefork_read` meets its contract: the entry's answer as a code.
-use native.Mathlib.Omega.{arith}
 use Rattle.dunefork.proofs.Coded.{replied, coded-refused, read-done}
 use borrow.Author.Needs.{needs}
 use Rattle.dunefork.proofs.dunefork_read.Statement.{statement}
@@ -7,7 +6,7 @@ use Rattle.dunefork.proofs.dunefork_read.Tie as tie
 use Rattle.dunefork.proofs.dunefork_read.Reads as reads
 use Rattle.dunefork.proofs.dunefork_read.Lts as lts
 use Rattle.code.proofs.read.read.Reads as read-reads
-use Rattle.codes.proofs.codes.refusal_code.Reads as refusal-code-reads
+use Rattle.dunefork.proofs.codes.refusal_code.Reads as refusal-code-reads
 
 read-requires : tie.Need-read-requires
 read-requires c κs = search needs

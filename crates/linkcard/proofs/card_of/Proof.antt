@@ -1,5 +1,4 @@
 -- `linkcard::card_of` meets its contract: the part handed on is as long as it says.
-use native.Mathlib.Omega.{arith}
 use mathlib.Core.Path.{sym}
 use lib.Seq.{length-take-le}
 use borrow.Author.Needs.{needs}

@@ -1,5 +1,4 @@
 -- `certificate::range::wrong_extent` meets its contract: one law for each exit.
-use borrow.Author.Needs.{needs}
 use native.Mathlib.Omega.{arith}
 use Rattle.certificate.proofs.Ranges.{extent-L-low, extent-L-high, extent-zero, extent-pass}
 use Rattle.certificate.proofs.range.wrong_extent.Statement.{statement}

@@ -1,7 +1,6 @@
 -- `certificate::range::wrong_ratio` meets its contract: one law for each exit.
 use native.Mathlib.Omega.{arith}
 use Rattle.certificate.proofs.Ranges.{ratio-u-low, ratio-u-high, ratio-f-odd, ratio-h, ratio-v, ratio-pass}
-use borrow.Author.Needs.{needs}
 use Rattle.certificate.proofs.range.wrong_ratio.Statement.{statement}
 use Rattle.certificate.proofs.range.wrong_ratio.Tie as tie
 

@@ -2,10 +2,10 @@
 use native.Mathlib.Omega.{arith}
 use mathlib.Core.Path.{sym, ap, _∙_}
 use Rattle.document.specs.Answer.{judgedAs}
-use Rattle.members.proofs.Cards.{card-size, card-refused}
-use Rattle.weighing.proofs.Weighing.{number-pos}
-use Rattle.acceptance.proofs.Accepted.{usable}
-use Rattle.acceptance.proofs.Cards.{number-le, first-is, recorded}
+use Rattle.listing.proofs.Cards.{card-size, card-refused}
+use Rattle.judging.proofs.Weighing.{number-pos}
+use Rattle.code.proofs.Accepted.{usable}
+use Rattle.code.proofs.CardEntries.{number-le, first-is, recorded}
 use borrow.Author.Needs.{needs}
 use Rattle.code.proofs.card.card.Statement.{statement}
 use Rattle.code.proofs.card.card.Tie as tie

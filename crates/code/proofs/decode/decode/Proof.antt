@@ -1,17 +1,16 @@
-use native.Mathlib.Omega.{arith}
 -- `code::decode::decode` meets its contract: judging says which.
 use mathlib.Core.Path.{sym, ap, _∙_}
 use Rattle.document.specs.Answer.{judgedAs}
-use Rattle.acceptance.proofs.Accepted.{usable}
-use Rattle.acceptance.proofs.Cards.{recorded}
-use Rattle.acceptance.proofs.Entries.{decode-sheet}
+use Rattle.code.proofs.Accepted.{usable}
+use Rattle.code.proofs.CardEntries.{recorded}
+use Rattle.code.proofs.Entries.{decode-sheet}
 use borrow.Author.Needs.{needs}
 use Rattle.code.proofs.decode.decode.Statement.{statement}
 use Rattle.code.proofs.decode.decode.Tie as tie
 use Rattle.code.proofs.decode.decode.Reads as reads
 use Rattle.code.proofs.decode.decode.Lts as lts
 use Rattle.code.proofs.judge.judge.Reads as judge-reads
-use Rattle.reception.proofs.decode.decode_accepted.Reads as decode-accepted-reads
+use Rattle.decoder.proofs.decode.decode_accepted.Reads as decode-accepted-reads
 
 judge-requires : tie.Need-judge-requires
 judge-requires c κs = search needs

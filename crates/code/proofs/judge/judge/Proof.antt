@@ -1,7 +1,7 @@
 -- `code::judge::judge` meets its contract: refusals 1 to 4 in turn, and what follows on an array of zeros.
 use native.Mathlib.Omega.{arith}
-use mathlib.Core.Path.{_≡_, sym, _∙_}
-use Rattle.weighing.proofs.Judging.{judge-1, judge-2, judge-3, judge-4, long-enough, judgeable, no-marks}
+use mathlib.Core.Path.{sym, _∙_}
+use Rattle.judging.proofs.Judging.{judge-1, judge-2, judge-3, judge-4, long-enough, judgeable, no-marks}
 use borrow.Author.Needs.{needs}
 use Rattle.code.proofs.judge.judge.Statement.{statement}
 use Rattle.code.proofs.judge.judge.Tie as tie

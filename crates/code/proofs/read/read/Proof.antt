@@ -1,9 +1,8 @@
 -- `code::read::read` meets its contract: judging says which.
-use native.Mathlib.Omega.{arith}
 use mathlib.Core.Path.{sym, ap, _∙_}
 use Rattle.document.specs.Answer.{judgedAs}
-use Rattle.acceptance.proofs.Accepted.{usable}
-use Rattle.acceptance.proofs.Entries.{read-sheet}
+use Rattle.code.proofs.Accepted.{usable}
+use Rattle.code.proofs.Entries.{read-sheet}
 use borrow.Author.Needs.{needs}
 use Rattle.code.proofs.read.read.Statement.{statement}
 use Rattle.code.proofs.read.read.Tie as tie

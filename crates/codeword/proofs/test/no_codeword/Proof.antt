@@ -1,6 +1,6 @@
 -- `codeword::test::no_codeword` meets its contract: the remainder by the generator is 0 exactly for codewords.
 use native.Mathlib.Omega.{arith}
-use Rattle.word.proofs.Places.{for-le}
+use Rattle.codeword.proofs.Places.{for-le}
 use Rattle.codeword.proofs.Words.{tested}
 use borrow.Author.Needs.{needs}
 use Rattle.codeword.proofs.test.no_codeword.Statement.{statement}

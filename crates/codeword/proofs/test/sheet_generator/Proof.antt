@@ -1,6 +1,5 @@
 -- `codeword::test::sheet_generator` meets its contract: the sheet's representatives are a part of its bytes.
-use native.Mathlib.Omega.{arith}
-use Rattle.factors.proofs.Assembly.{building-start}
+use Rattle.generator.proofs.Assembly.{building-start}
 use Rattle.codeword.proofs.Words.{lengths-of, part-end, part-rising, generated}
 use borrow.Author.Needs.{needs}
 use Rattle.codeword.proofs.test.sheet_generator.Statement.{statement}

@@ -2,18 +2,18 @@
 use borrow.Author.Needs.{needs}
 use mathlib.Core.Path.{_≡_}
 use Prim.Native.Nat.{_-_, _^_, _≤_, _<_}
-use Rattle.field.specs.Field.{Degree}
+use Rattle.field.specs.Tables.{Tables}
 use Rattle.field_figures.proofs.elements.inverses.Statement.{statement}
 use Rattle.field_figures.proofs.elements.inverses.Tie as tie
 
 abbrev Inv-loop : tie.InvT-loop
-Inv-loop s end h₀ a₀ h a = Degree s × (end ≡ 2 ^ s) × (a ≤ end) × (h < 4294967291)
+Inv-loop s powers logs end h₀ a₀ h a = Tables s powers logs × (end ≡ 2 ^ s) × (a ≤ end) × (h < 4294967291)
 
 abbrev μ-loop : tie.MeasureT-loop
-μ-loop s end h₀ a₀ h a = end - a
+μ-loop s powers logs end h₀ a₀ h a = end - a
 
 size-requires : tie.Need-size-requires Inv-loop μ-loop
-size-requires c κs = search needs
+size-requires c κs = c .before .before .pre .degree
 
 loop-holds : tie.Need-loop-holds Inv-loop μ-loop
 loop-holds c = search needs

@@ -2,15 +2,15 @@
 use borrow.Author.Needs.{needs}
 use mathlib.Core.Path.{_≡_}
 use Prim.Native.Nat.{_-_, _^_, _≤_, _<_}
-use Rattle.tables.specs.Tables.{Tables}
+use Rattle.field.specs.Tables.{Tables}
 use Rattle.field_figures.proofs.elements.logs.Statement.{statement}
 use Rattle.field_figures.proofs.elements.logs.Tie as tie
 
 abbrev Inv-loop : tie.InvT-loop
-Inv-loop s e g end h₀ a₀ h a = Tables s e g × (end ≡ 2 ^ s) × (0 < a) × (a ≤ end) × (h < 4294967291)
+Inv-loop s powers logs end h₀ a₀ h a = Tables s powers logs × (end ≡ 2 ^ s) × (0 < a) × (a ≤ end) × (h < 4294967291)
 
 abbrev μ-loop : tie.MeasureT-loop
-μ-loop s e g end h₀ a₀ h a = end - a
+μ-loop s powers logs end h₀ a₀ h a = end - a
 
 size-requires : tie.Need-size-requires Inv-loop μ-loop
 size-requires c κs = c .before .before .pre .degree

@@ -6,10 +6,10 @@ use Rattle.field_figures.proofs.elements.powers.Statement.{statement}
 use Rattle.field_figures.proofs.elements.powers.Tie as tie
 
 abbrev Inv-loop : tie.InvT-loop
-Inv-loop s e n h₀ i₀ h i = (n ≤ length e) × (i ≤ n) × (h < 4294967291)
+Inv-loop s powers n h₀ i₀ h i = (n ≤ length powers) × (i ≤ n) × (h < 4294967291)
 
 abbrev μ-loop : tie.MeasureT-loop
-μ-loop s e n h₀ i₀ h i = n - i
+μ-loop s powers n h₀ i₀ h i = n - i
 
 order-requires : tie.Need-order-requires Inv-loop μ-loop
 order-requires c κs = search needs

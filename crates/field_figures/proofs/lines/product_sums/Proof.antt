@@ -1,6 +1,6 @@
--- `field_figures::lines::product_sums` meets its contract: the arrays have room for the tables of every degree.
+-- `field_figures::lines::product_sums` meets its contract: the arrays have tables-fit for the tables of every degree.
 use native.Mathlib.Omega.{arith}
-use Rattle.field_figures.proofs.Laws.{room}
+use Rattle.field_figures.proofs.Laws.{tables-fit}
 use borrow.Author.Needs.{needs}
 use Rattle.field_figures.proofs.lines.product_sums.Statement.{statement}
 use Rattle.field_figures.proofs.lines.product_sums.Tie as tie
@@ -12,7 +12,7 @@ slice-aggregate-fill-2 : tie.Need-slice-aggregate-fill-2
 slice-aggregate-fill-2 c = search needs
 
 fill-requires : tie.Need-fill-requires
-fill-requires c κs = room (c .before .before .pre) (omega arith) (omega arith)
+fill-requires c κs = tables-fit (c .before .before .pre) (omega arith) (omega arith)
 
 slice-aggregate-all : tie.Need-slice-aggregate-all
 slice-aggregate-all c = search needs

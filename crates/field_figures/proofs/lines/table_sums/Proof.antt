@@ -1,6 +1,6 @@
--- `field_figures::lines::table_sums` meets its contract: the arrays have room for the tables of every degree.
+-- `field_figures::lines::table_sums` meets its contract: the arrays have tables-fit for the tables of every degree.
 use native.Mathlib.Omega.{arith}
-use Rattle.field_figures.proofs.Laws.{room}
+use Rattle.field_figures.proofs.Laws.{tables-fit}
 use borrow.Author.Needs.{needs}
 use Rattle.field_figures.proofs.lines.table_sums.Statement.{statement}
 use Rattle.field_figures.proofs.lines.table_sums.Tie as tie
@@ -12,7 +12,7 @@ slice-aggregate-fill-2 : tie.Need-slice-aggregate-fill-2
 slice-aggregate-fill-2 c = search needs
 
 fill-requires : tie.Need-fill-requires
-fill-requires c κs = room (c .before .before .pre) (omega arith) (omega arith)
+fill-requires c κs = tables-fit (c .before .before .pre) (omega arith) (omega arith)
 
 slice-aggregate-powers : tie.Need-slice-aggregate-powers
 slice-aggregate-powers c = search needs
@@ -29,6 +29,15 @@ slice-aggregate-logs-2 c = search needs
 logs-requires : tie.Need-logs-requires
 logs-requires c κs = search needs
 
+slice-aggregate-inverses : tie.Need-slice-aggregate-inverses
+slice-aggregate-inverses c = search needs
+
+slice-aggregate-inverses-2 : tie.Need-slice-aggregate-inverses-2
+slice-aggregate-inverses-2 c = search needs
+
+inverses-requires : tie.Need-inverses-requires
+inverses-requires c κs = search needs
+
 returns : tie.Need-returns
 returns c = search needs
 
@@ -44,4 +53,7 @@ table-sums-spec =
     slice-aggregate-logs
     slice-aggregate-logs-2
     logs-requires
+    slice-aggregate-inverses
+    slice-aggregate-inverses-2
+    inverses-requires
     returns)

@@ -2,16 +2,16 @@
 use borrow.Author.Needs.{needs}
 use mathlib.Core.Path.{_≡_}
 use Prim.Native.Nat.{_-_, _^_, _≤_}
-use Rattle.tables.specs.Tables.{Tables}
-use Rattle.field_figures.specs.Sums.{Below}
+use Rattle.field.specs.Tables.{Tables}
+use Rattle.field_figures.specs.Sums.{BelowModulus}
 use Rattle.field_figures.proofs.products.all.Statement.{statement}
 use Rattle.field_figures.proofs.products.all.Tie as tie
 
 abbrev Inv-loop : tie.InvT-loop
-Inv-loop s e g end sums₀ a₀ sums a = Tables s e g × (end ≡ 2 ^ s) × (a ≤ end) × Below sums
+Inv-loop s powers logs end sums₀ a₀ sums a = Tables s powers logs × (end ≡ 2 ^ s) × (a ≤ end) × BelowModulus sums
 
 abbrev μ-loop : tie.MeasureT-loop
-μ-loop s e g end sums₀ a₀ sums a = end - a
+μ-loop s powers logs end sums₀ a₀ sums a = end - a
 
 size-requires : tie.Need-size-requires Inv-loop μ-loop
 size-requires c κs = c .before .before .pre .degree

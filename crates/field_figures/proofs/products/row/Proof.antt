@@ -2,16 +2,16 @@
 use borrow.Author.Needs.{needs}
 use mathlib.Core.Path.{_≡_}
 use Prim.Native.Nat.{_-_, _^_, _≤_, _<_}
-use Rattle.tables.specs.Tables.{Tables}
-use Rattle.field_figures.specs.Sums.{Below}
+use Rattle.field.specs.Tables.{Tables}
+use Rattle.field_figures.specs.Sums.{BelowModulus}
 use Rattle.field_figures.proofs.products.row.Statement.{statement}
 use Rattle.field_figures.proofs.products.row.Tie as tie
 
 abbrev Inv-loop : tie.InvT-loop
-Inv-loop s a e g end sums₀ b₀ sums b = Tables s e g × (a < 2 ^ s) × (end ≡ 2 ^ s) × (b ≤ end) × Below sums
+Inv-loop s a powers logs end sums₀ b₀ sums b = Tables s powers logs × (a < 2 ^ s) × (end ≡ 2 ^ s) × (b ≤ end) × BelowModulus sums
 
 abbrev μ-loop : tie.MeasureT-loop
-μ-loop s a e g end sums₀ b₀ sums b = end - b
+μ-loop s a powers logs end sums₀ b₀ sums b = end - b
 
 size-requires : tie.Need-size-requires Inv-loop μ-loop
 size-requires c κs = c .before .before .pre .0 .degree

@@ -1,16 +1,16 @@
 -- `field_figures::products::sample` meets its contract: the checksums stay below their modulus, and the state below 2^32.
 use borrow.Author.Needs.{needs}
 use Prim.Native.Nat.{_-_, _≤_, _<_}
-use Rattle.tables.specs.Tables.{Tables}
-use Rattle.field_figures.specs.Sums.{Below}
+use Rattle.field.specs.Tables.{Tables}
+use Rattle.field_figures.specs.Sums.{BelowModulus}
 use Rattle.field_figures.proofs.products.sample.Statement.{statement}
 use Rattle.field_figures.proofs.products.sample.Tie as tie
 
 abbrev Inv-loop : tie.InvT-loop
-Inv-loop s e g sums₀ x₀ i₀ sums x i = Tables s e g × (i ≤ 4096) × (x < 4294967296) × Below sums
+Inv-loop s powers logs sums₀ x₀ i₀ sums x i = Tables s powers logs × (i ≤ 4096) × (x < 4294967296) × BelowModulus sums
 
 abbrev μ-loop : tie.MeasureT-loop
-μ-loop s e g sums₀ x₀ i₀ sums x i = 4096 - i
+μ-loop s powers logs sums₀ x₀ i₀ sums x i = 4096 - i
 
 loop-holds : tie.Need-loop-holds Inv-loop μ-loop
 loop-holds c = search needs

@@ -1,7 +1,6 @@
 -- `field_figures::walk::below` meets its contract: there are fewer masks than numbers below the last.
 use borrow.Author.Needs.{needs}
 use mathlib.Core.Path.{_≡_}
-use native.Mathlib.Omega.{arith}
 use Prim.Native.Nat.{_+_, _-_, _^_, _≤_}
 use Rattle.field.specs.Field.{Degree}
 use Rattle.field_figures.proofs.walk.below.Statement.{statement}

@@ -2,7 +2,7 @@
 use native.Mathlib.Omega.{arith}
 use Prim.Native.Nat.{_^_, _≤_}
 use lib.Pow.{pow-mono}
-use Rattle.factors.proofs.Assembly.{degree-at, root-is}
+use Rattle.generator.proofs.Assembly.{degree-at, root-is}
 use borrow.Author.Needs.{needs}
 use Rattle.generator.proofs.generator.alpha.Statement.{statement}
 use Rattle.generator.proofs.generator.alpha.Tie as tie

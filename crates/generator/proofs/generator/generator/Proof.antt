@@ -1,21 +1,19 @@
 -- `generator::generator::generator` meets its contract: g holds the generator of the representatives from i on.
-use borrow.Author.Needs.{needs}
 use native.Mathlib.Omega.{arith}
 use mathlib.Core.Path.{_≡_, refl}
-use mathlib.Core.List.{List}
 use Prim.Native.Nat.{_+_, _-_, _≤_, _<_}
 use lib.ListN.{length, drop}
 use Rattle.field.specs.Field.{α}
-use Rattle.factors.specs.Building.{Rising, Lengths, Building}
-use Rattle.factors.proofs.Assembly.{degree-at, alpha-lt, walking-of, building-lt, building-first, building-more, building-end}
+use Rattle.generator.specs.Building.{Rising, Lengths, Building}
+use Rattle.generator.proofs.Assembly.{degree-at, alpha-lt, walking-of, building-lt, building-first, building-more, building-end}
 use Rattle.generator.proofs.generator.generator.Statement.{statement}
 use Rattle.generator.proofs.generator.generator.Tie as tie
 
 abbrev Inv-loop : tie.InvT-loop
-Inv-loop reps n s g₀ p₀ w₀ first d₀ i₀ g p w d i = Lengths n s × Rising n reps × (first ≡ α s n) × (12 < length p) × (n < length g) × (n + 14 ≤ length w) × (length p ≡ length p₀) × (length g ≡ length g₀) × (length w ≡ length w₀) × (i ≤ length reps) × Building n d (drop i reps) g w
+Inv-loop representatives n s product₀ factor₀ bits₀ first d₀ i₀ product factor bits d i = Lengths n s × Rising n representatives × (first ≡ α s n) × (12 < length factor) × (n < length product) × (n + 14 ≤ length bits) × (length factor ≡ length factor₀) × (length product ≡ length product₀) × (length bits ≡ length bits₀) × (i ≤ length representatives) × Building n d (drop i representatives) product bits
 
 abbrev μ-loop : tie.MeasureT-loop
-μ-loop reps n s g₀ p₀ w₀ first d₀ i₀ g p w d i = i
+μ-loop representatives n s product₀ factor₀ bits₀ first d₀ i₀ product factor bits d i = i
 
 alpha-requires : tie.Need-alpha-requires Inv-loop μ-loop
 alpha-requires c κs = c .before .before .before .before .pre .0

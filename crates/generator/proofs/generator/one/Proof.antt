@@ -1,27 +1,26 @@
 -- `generator::generator::one` meets its contract: the first i entries are 0.
-use borrow.Author.Needs.{needs}
 use native.Mathlib.Omega.{arith}
 use mathlib.Core.Path.{_≡_, refl}
 use Prim.Native.Nat.{_-_, _≤_, _<_}
 use lib.ListN.{length, length-set}
-use Rattle.factors.proofs.Assembly.{Cleared, cleared-start, cleared-more, unit-end}
+use Rattle.generator.proofs.Assembly.{Cleared, cleared-start, cleared-more, unit-end}
 use Rattle.generator.proofs.generator.one.Statement.{statement}
 use Rattle.generator.proofs.generator.one.Tie as tie
 
 abbrev Inv-loop : tie.InvT-loop
-Inv-loop p₀ end i₀ p i = (0 < length p₀) × (end ≡ length p₀) × (length p ≡ length p₀) × (i ≤ end) × Cleared i p
+Inv-loop factor₀ end i₀ factor i = (0 < length factor₀) × (end ≡ length factor₀) × (length factor ≡ length factor₀) × (i ≤ end) × Cleared i factor
 
 abbrev μ-loop : tie.MeasureT-loop
-μ-loop p₀ end i₀ p i = end - i
+μ-loop factor₀ end i₀ factor i = end - i
 
 loop-holds : tie.Need-loop-holds Inv-loop μ-loop
 loop-holds c = (c .pre, refl, refl, omega arith, cleared-start)
 
-mul-p : tie.Need-mul-p Inv-loop μ-loop
-mul-p c = let v = c .before .loop .inv in omega (arith, v .1, v .2)
+mul-factor : tie.Need-mul-factor Inv-loop μ-loop
+mul-factor c = let v = c .before .loop .inv in omega (arith, v .1, v .2)
 
-slice-write-p : tie.Need-slice-write-p Inv-loop μ-loop
-slice-write-p c = let v = c .before .loop .inv in omega (arith, v .1, v .2)
+slice-write-factor : tie.Need-slice-write-factor Inv-loop μ-loop
+slice-write-factor c = let v = c .before .loop .inv in omega (arith, v .1, v .2)
 
 add-i : tie.Need-add-i Inv-loop μ-loop
 add-i c = let v = c .before .loop .inv in omega (arith, v .1, v .2)
@@ -32,8 +31,8 @@ loop-less c = omega arith
 loop-again : tie.Need-loop-again Inv-loop μ-loop
 loop-again c = let v = c .before .loop .inv in (v .0, v .1, simp length-set (v .2), omega arith, cleared-more (v .4) (omega (arith, v .1, v .2)))
 
-slice-write-p-2 : tie.Need-slice-write-p-2 Inv-loop μ-loop
-slice-write-p-2 c = let v = c .before .loop .inv in omega (arith, v .0, v .2)
+slice-write-factor-2 : tie.Need-slice-write-factor-2 Inv-loop μ-loop
+slice-write-factor-2 c = let v = c .before .loop .inv in omega (arith, v .0, v .2)
 
 same-length : tie.Need-same-length Inv-loop μ-loop
 same-length c = let v = c .before .loop .inv in simp length-set (v .2)
@@ -48,11 +47,11 @@ one-spec =
     Inv-loop
     μ-loop
     loop-holds
-    mul-p
-    slice-write-p
+    mul-factor
+    slice-write-factor
     add-i
     loop-less
     loop-again
-    slice-write-p-2
+    slice-write-factor-2
     same-length
     returns)

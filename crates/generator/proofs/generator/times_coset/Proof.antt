@@ -1,6 +1,5 @@
 -- `generator::generator::times_coset` meets its contract: the coset's factor is the generator of r alone, and generators multiply.
-use native.Mathlib.Omega.{arith}
-use Rattle.factors.proofs.Assembly.{joined}
+use Rattle.generator.proofs.Assembly.{joined}
 use borrow.Author.Needs.{needs}
 use Rattle.generator.proofs.generator.times_coset.Statement.{statement}
 use Rattle.generator.proofs.generator.times_coset.Tie as tie

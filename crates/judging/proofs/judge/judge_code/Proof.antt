@@ -1,11 +1,10 @@
 -- `judging::judge::judge_code` meets its contract: each exit is the definition's, by the marks that refusal 5 leaves.
 use native.Mathlib.Omega.{arith}
-use mathlib.Core.Path.{_≡_, refl, sym, ap, _∙_, subst}
-use Rattle.weighing.specs.Weigh.{weighedAs}
-use Rattle.document.specs.Answer.{numberOf, returned}
-use Rattle.weighing.proofs.Weighing.{number-pos}
-use Rattle.weighing.proofs.Judging.{judge-5, judge-6, judge-refused, judge-accepted, size-is, none-left, some-left, recordable}
-use Rattle.weighing.proofs.Judging.{headed-length, headed-reps, headed-certs, odd-of, marks-at}
+use mathlib.Core.Path.{sym, ap, _∙_}
+use Rattle.judging.specs.Weigh.{weighedAs}
+use Rattle.judging.proofs.Weighing.{number-pos}
+use Rattle.judging.proofs.Judging.{judge-5, judge-6, judge-refused, judge-accepted, size-is, none-left, some-left, recordable}
+use Rattle.judging.proofs.Judging.{headed-length, headed-reps, headed-certs, odd-of, marks-at}
 use borrow.Author.Needs.{needs}
 use Rattle.judging.proofs.judge.judge_code.Statement.{statement}
 use Rattle.judging.proofs.judge.judge_code.Tie as tie

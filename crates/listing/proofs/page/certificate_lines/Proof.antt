@@ -4,17 +4,17 @@ use mathlib.Core.Path.{_≡_, refl}
 use Prim.Native.Nat.{_+_, _-_, _*_, _≤_}
 use lib.ListN.{length}
 use Rattle.document.specs.Card.{certificateLine}
-use Rattle.text.specs.Wrote.{Wrote}
-use Rattle.members.specs.Text.{rows}
-use Rattle.members.specs.Accepted.{Sound}
-use Rattle.members.proofs.Certificates.{checkable-of}
-use Rattle.members.proofs.Pieces.{rows-start, rows-more, rows-end}
+use Rattle.listing.specs.Wrote.{Wrote}
+use Rattle.listing.specs.Text.{rows}
+use Rattle.listing.specs.Accepted.{CertificatesRuled}
+use Rattle.listing.proofs.Certificates.{checkable-of}
+use Rattle.listing.proofs.Pieces.{rows-start, rows-more, rows-end}
 use Rattle.listing.proofs.page.certificate_lines.Statement.{statement}
 use Rattle.listing.proofs.page.certificate_lines.Tie as tie
 
 abbrev Inv-loop : tie.InvT-loop
 Inv-loop out₀ at sheet n reps count zeros end₀ i₀ out end i =
-    (at + 140 ≤ length out₀) × Sound sheet n reps count zeros × (count ≤ 4) × (length out ≡ length out₀) × (i ≤ count)
+    (at + 140 ≤ length out₀) × CertificatesRuled sheet n reps count zeros × (count ≤ 4) × (length out ≡ length out₀) × (i ≤ count)
     × (end ≤ at + 35 * i) × Wrote (rows (certificateLine sheet) i) at out₀ out end
 
 abbrev μ-loop : tie.MeasureT-loop

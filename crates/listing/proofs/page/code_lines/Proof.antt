@@ -1,6 +1,6 @@
 -- `listing::page::code_lines` meets its contract: one line after the other.
 use native.Mathlib.Omega.{arith}
-use Rattle.text.proofs.Writing.{then}
+use Rattle.listing.proofs.Writing.{then}
 use borrow.Author.Needs.{needs}
 use Rattle.listing.proofs.page.code_lines.Statement.{statement}
 use Rattle.listing.proofs.page.code_lines.Tie as tie

@@ -1,7 +1,7 @@
 -- `listing::page::put_certificate` meets its contract: the check answers the distance.
 use native.Mathlib.Omega.{arith}
-use Rattle.text.proofs.Writing.{piece-is}
-use Rattle.members.proofs.Certificates.{distance-of, terms-le, certificate-is}
+use Rattle.listing.proofs.Writing.{piece-is}
+use Rattle.listing.proofs.Certificates.{distance-of, terms-le, certificate-is}
 use borrow.Author.Needs.{needs}
 use Rattle.listing.proofs.page.put_certificate.Statement.{statement}
 use Rattle.listing.proofs.page.put_certificate.Tie as tie

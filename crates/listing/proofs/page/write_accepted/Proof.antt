@@ -1,7 +1,7 @@
 -- `listing::page::write_accepted` meets its contract: one line after the other.
 use native.Mathlib.Omega.{arith}
-use Rattle.text.proofs.Writing.{piece-is, then}
-use Rattle.members.proofs.Whole.{ranges-of, sound-of, radius-short, accepted-is}
+use Rattle.listing.proofs.Writing.{piece-is, then}
+use Rattle.listing.proofs.Whole.{ranges-of, sound-of, radius-short, accepted-is}
 use borrow.Author.Needs.{needs}
 use Rattle.listing.proofs.page.write_accepted.Statement.{statement}
 use Rattle.listing.proofs.page.write_accepted.Tie as tie

@@ -1,6 +1,6 @@
 -- `listing::page::write_refused` meets its contract: one piece after the other.
 use Rattle.document.specs.Card.{refusedLine}
-use Rattle.text.proofs.Writing.{then}
+use Rattle.listing.proofs.Writing.{then}
 use borrow.Author.Needs.{needs}
 use Rattle.listing.proofs.page.write_refused.Statement.{statement}
 use Rattle.listing.proofs.page.write_refused.Tie as tie

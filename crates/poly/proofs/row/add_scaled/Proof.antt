@@ -11,10 +11,10 @@ use Rattle.poly.proofs.row.add_scaled.Statement.{statement}
 use Rattle.poly.proofs.row.add_scaled.Tie as tie
 
 abbrev Inv-loop : tie.InvT-loop
-Inv-loop s a₀ i k b n e g j₀ a j = Addable s i k n a₀ b e g × (j ≤ n) × (length a ≡ length a₀) × Adding s i (multiple s k b) j a₀ a
+Inv-loop s sum₀ i k addend n powers logs j₀ sum j = Addable s i k n sum₀ addend powers logs × (j ≤ n) × (length sum ≡ length sum₀) × Adding s i (multiple s k addend) j sum₀ sum
 
 abbrev μ-loop : tie.MeasureT-loop
-μ-loop s a₀ i k b n e g j₀ a j = n - j
+μ-loop s sum₀ i k addend n powers logs j₀ sum j = n - j
 
 loop-holds : tie.Need-loop-holds Inv-loop μ-loop
 loop-holds c = let p = c .before .before .before .before .pre in (p, omega arith, refl, adding-start (p .a-small))
@@ -31,17 +31,17 @@ scaled-requires c κs = let p = c .before .before .loop .inv .0 in (p .tables, p
 add-at : tie.Need-add-at Inv-loop μ-loop
 add-at c = search needs
 
-mul-a : tie.Need-mul-a Inv-loop μ-loop
-mul-a c = search needs
+mul-sum : tie.Need-mul-sum Inv-loop μ-loop
+mul-sum c = search needs
 
-slice-read-a : tie.Need-slice-read-a Inv-loop μ-loop
-slice-read-a c = search needs
+slice-read-sum : tie.Need-slice-read-sum Inv-loop μ-loop
+slice-read-sum c = search needs
 
-mul-a-2 : tie.Need-mul-a-2 Inv-loop μ-loop
-mul-a-2 c = search needs
+mul-sum-2 : tie.Need-mul-sum-2 Inv-loop μ-loop
+mul-sum-2 c = search needs
 
-slice-write-a : tie.Need-slice-write-a Inv-loop μ-loop
-slice-write-a c = search needs
+slice-write-sum : tie.Need-slice-write-sum Inv-loop μ-loop
+slice-write-sum c = search needs
 
 add-j : tie.Need-add-j Inv-loop μ-loop
 add-j c = search needs
@@ -74,10 +74,10 @@ add-scaled-spec =
     shared-slice-read-scaled
     scaled-requires
     add-at
-    mul-a
-    slice-read-a
-    mul-a-2
-    slice-write-a
+    mul-sum
+    slice-read-sum
+    mul-sum-2
+    slice-write-sum
     add-j
     loop-less
     loop-again

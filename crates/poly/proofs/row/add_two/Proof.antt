@@ -10,10 +10,10 @@ use Rattle.poly.proofs.row.add_two.Statement.{statement}
 use Rattle.poly.proofs.row.add_two.Tie as tie
 
 abbrev Inv-loop : tie.InvT-loop
-Inv-loop s a₀ i k0 k1 b n e g last₀ j₀ a last j = (Addable s (i + 1) k1 n a₀ b e g) × (k0 ≤ 2 * (2 ^ s - 1)) × (j ≤ n) × (length a ≡ length a₀) × AddingTwo s i k0 k1 b j a₀ a last
+Inv-loop s sum₀ i k0 k1 addend n powers logs last₀ j₀ sum last j = (Addable s (i + 1) k1 n sum₀ addend powers logs) × (k0 ≤ 2 * (2 ^ s - 1)) × (j ≤ n) × (length sum ≡ length sum₀) × AddingTwo s i k0 k1 addend j sum₀ sum last
 
 abbrev μ-loop : tie.MeasureT-loop
-μ-loop s a₀ i k0 k1 b n e g last₀ j₀ a last j = n - j
+μ-loop s sum₀ i k0 k1 addend n powers logs last₀ j₀ sum last j = n - j
 
 loop-holds : tie.Need-loop-holds Inv-loop μ-loop
 loop-holds c = let p = c .before .before .before .before .pre in (p .0, p .1, omega arith, refl, adding-two-start (p .0 .a-small))
@@ -33,17 +33,17 @@ scaled-requires-2 c κs = let i = c .before .before .before .loop .inv in (i .0 
 add-at : tie.Need-add-at Inv-loop μ-loop
 add-at c = search needs
 
-mul-a : tie.Need-mul-a Inv-loop μ-loop
-mul-a c = search needs
+mul-sum : tie.Need-mul-sum Inv-loop μ-loop
+mul-sum c = search needs
 
-slice-read-a : tie.Need-slice-read-a Inv-loop μ-loop
-slice-read-a c = search needs
+slice-read-sum : tie.Need-slice-read-sum Inv-loop μ-loop
+slice-read-sum c = search needs
 
-mul-a-2 : tie.Need-mul-a-2 Inv-loop μ-loop
-mul-a-2 c = search needs
+mul-sum-2 : tie.Need-mul-sum-2 Inv-loop μ-loop
+mul-sum-2 c = search needs
 
-slice-write-a : tie.Need-slice-write-a Inv-loop μ-loop
-slice-write-a c = search needs
+slice-write-sum : tie.Need-slice-write-sum Inv-loop μ-loop
+slice-write-sum c = search needs
 
 add-j : tie.Need-add-j Inv-loop μ-loop
 add-j c = search needs
@@ -60,17 +60,17 @@ loop-again c = let l = c .before .before .before .before .before .loop in
 add-end : tie.Need-add-end Inv-loop μ-loop
 add-end c = search needs
 
-mul-a-3 : tie.Need-mul-a-3 Inv-loop μ-loop
-mul-a-3 c = search needs
+mul-sum-3 : tie.Need-mul-sum-3 Inv-loop μ-loop
+mul-sum-3 c = search needs
 
-slice-read-a-2 : tie.Need-slice-read-a-2 Inv-loop μ-loop
-slice-read-a-2 c = search needs
+slice-read-sum-2 : tie.Need-slice-read-sum-2 Inv-loop μ-loop
+slice-read-sum-2 c = search needs
 
-mul-a-4 : tie.Need-mul-a-4 Inv-loop μ-loop
-mul-a-4 c = search needs
+mul-sum-4 : tie.Need-mul-sum-4 Inv-loop μ-loop
+mul-sum-4 c = search needs
 
-slice-write-a-2 : tie.Need-slice-write-a-2 Inv-loop μ-loop
-slice-write-a-2 c = search needs
+slice-write-sum-2 : tie.Need-slice-write-sum-2 Inv-loop μ-loop
+slice-write-sum-2 c = search needs
 
 same-length : tie.Need-same-length Inv-loop μ-loop
 same-length c = simp length-set (c .before .before .loop .inv .3)
@@ -90,17 +90,17 @@ add-two-spec =
     scaled-requires
     scaled-requires-2
     add-at
-    mul-a
-    slice-read-a
-    mul-a-2
-    slice-write-a
+    mul-sum
+    slice-read-sum
+    mul-sum-2
+    slice-write-sum
     add-j
     loop-less
     loop-again
     add-end
-    mul-a-3
-    slice-read-a-2
-    mul-a-4
-    slice-write-a-2
+    mul-sum-3
+    slice-read-sum-2
+    mul-sum-4
+    slice-write-sum-2
     same-length
     returns)

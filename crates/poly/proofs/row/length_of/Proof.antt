@@ -9,10 +9,10 @@ use Rattle.poly.proofs.row.length_of.Statement.{statement}
 use Rattle.poly.proofs.row.length_of.Tie as tie
 
 abbrev Inv-loop : tie.InvT-loop
-Inv-loop a n k₀ k = (k ≤ n) × Short k a
+Inv-loop coefficients n k₀ k = (k ≤ n) × Short k coefficients
 
 abbrev μ-loop : tie.MeasureT-loop
-μ-loop a n k₀ k = k
+μ-loop coefficients n k₀ k = k
 
 loop-holds : tie.Need-loop-holds Inv-loop μ-loop
 loop-holds c = (omega arith, c .pre .1)

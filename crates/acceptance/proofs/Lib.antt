@@ -1,3 +1,0 @@
-pub mod Accepted
-pub mod Entries
-pub mod Cards

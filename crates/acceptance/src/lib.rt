@@ -1,1 +1,0 @@
-// What an accepted sheet grants the entries: laws only.

@@ -1,2 +1,0 @@
-// Whether a word with some places changed is a codeword, by the values of the changes alone.
-pub mod agrees;

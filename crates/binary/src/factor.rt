@@ -1,0 +1,28 @@
+// Coprime numbers, and the degree of a mask.
+ghost use mathlib.Core.Path.{_≡_};
+ghost use Prim.Native.Nat.{_<_};
+ghost use Rattle.binary.specs.Factor.{coprime as coprimeOf, degree as degreeOf};
+
+// x and y keep the divisors that a and b have in common: at the end y is 0, and x is the greatest.
+pub fn coprime(a: usize, b: usize) -> bool
+    ensures { λ r. ⌜ r ≡ coprimeOf a b ⌝ }
+{
+    let mut x = a;
+    let mut y = b;
+    while y != 0 {
+        let r = x % y;
+        x = y;
+        y = r;
+    }
+    x == 1
+}
+
+pub fn degree(f: usize) -> usize
+    requires { ⌜ f < 65536 ⌝ }
+    ensures { λ r. ⌜ r ≡ degreeOf f ⌝ }
+{
+    if f == 0 {
+        return 0;
+    }
+    (31 - u32::leading_zeros(f as u32)) as usize
+}

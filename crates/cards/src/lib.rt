@@ -1,2 +1,0 @@
-// The listing, for an accepted sheet.
-pub mod card;

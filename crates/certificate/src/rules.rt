@@ -1,0 +1,55 @@
+// Rules 3 and 4: the period of f, and the terms of h/f walked by a shift register.
+ghost use mathlib.Core.Path.{_≡_};
+ghost use mathlib.Core.Bool.{not};
+ghost use Prim.Native.Nat.{_+_, _*_, _/_, _%_, _<_, _≤_};
+ghost use Rattle.certificate.specs.Rules.{Walkable, Ruled, certificateAs};
+ghost use Rattle.binary.specs.Factor.{coprime, period, Modulus};
+ghost use Rattle.field.specs.Mask.{_⊕_};
+use crate::types::Certificate;
+
+// The register of h/f after one term: its lowest coefficient is the term, and f times it is taken off before the shift.
+pub fn next_register(f: usize, num: usize) -> usize
+    requires { ⌜ (f < 512) × (num < 256) ⌝ }
+    ensures { λ r. ⌜ r ≡ (num ⊕ (num % 2) * f) / 2 ⌝ }
+{
+    if num % 2 == 1 { (num ^ f) / 2 } else { num / 2 }
+}
+
+// (at + z) mod n, with no division.
+pub fn step(n: usize, at: usize, z: usize) -> usize
+    requires { ⌜ (at < n) × (z < n) × (n ≤ 65535) ⌝ }
+    ensures { λ r. ⌜ r ≡ (at + z) % n ⌝ }
+{
+    let next = at + z;
+    if next < n { next } else { next - n }
+}
+
+// Refusal 10: a term that is 1 at a place that is not in D.
+pub fn wrong_terms(n: usize, c: Certificate, zeros: &[u8]) -> bool
+    requires { ⌜ Walkable n c (now zeros) ⌝ }
+    ensures { λ r. ⌜ Ruled n (certificateAs c) (now (zeros .entry)) r ⌝ }
+{
+    let mut num = c.h;
+    let mut at = c.b;
+    let mut j: usize = 0;
+    while j < c.terms {
+        if (zeros[at] as usize) < num % 2 {
+            return true;
+        }
+        num = next_register(c.f, num);
+        at = step(n, at, c.z);
+        j = j + 1;
+    }
+    false
+}
+
+// Refusal 9.
+pub fn wrong_period(n: usize, f: usize, u: usize) -> bool
+    requires { ⌜ Modulus f u ⌝ }
+    ensures { λ r. ⌜ r ≡ not (coprime (period f) n) ⌝ }
+{
+    if binary::factor::coprime(binary::period::period(f, u), n) {
+        return false;
+    }
+    true
+}

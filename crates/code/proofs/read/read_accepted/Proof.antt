@@ -1,0 +1,81 @@
+-- `code::read::read_accepted` meets its contract: one law for each exit.
+use native.Mathlib.Omega.{arith}
+use mathlib.Core.Path.{sym, _∙_}
+use Rattle.codeword.proofs.Words.{fresh, split-long}
+use Rattle.code.proofs.Entries.{read-word, read-out, read-spare, read-none, read-done}
+use borrow.Author.Needs.{needs}
+use Rattle.code.proofs.read.read_accepted.Statement.{statement}
+use Rattle.code.proofs.read.read_accepted.Tie as tie
+
+bytes-for-requires : tie.Need-bytes-for-requires
+bytes-for-requires c κs = search needs
+
+returns : tie.Need-returns
+returns c = read-word (c .before .before .before .before .before .pre) _ _ (λ e. c .if1 .taken (e ∙ sym (c .before .bytes-for .ensures)))
+
+bytes-for-requires-2 : tie.Need-bytes-for-requires-2
+bytes-for-requires-2 c κs = search needs
+
+returns-2 : tie.Need-returns-2
+returns-2 c = read-out (c .before .before .before .before .before .before .before .pre) _ _ (c .before .before .if1 .left ∙ c .before .before .before .bytes-for .ensures) (λ e. c .if2 .taken (e ∙ sym (c .before .bytes-for2 .ensures)))
+
+spare-word-requires : tie.Need-spare-word-requires
+spare-word-requires c κs = search needs
+
+returns-3 : tie.Need-returns-3
+returns-3 c = read-spare (c .before .before .before .before .before .before .before .before .before .pre) _ _ (c .before .before .before .before .if1 .left ∙ c .before .before .before .before .before .bytes-for .ensures) (c .before .before .if2 .left ∙ c .before .before .before .bytes-for2 .ensures) (sym (c .before .spare-word .ensures) ∙ c .if3 .taken)
+
+array-write-generator : tie.Need-array-write-generator
+array-write-generator c = search needs
+
+slice-aggregate-no-codeword : tie.Need-slice-aggregate-no-codeword
+slice-aggregate-no-codeword c = search needs
+
+slice-aggregate-no-codeword-2 : tie.Need-slice-aggregate-no-codeword-2
+slice-aggregate-no-codeword-2 c = search needs
+
+slice-aggregate-no-codeword-3 : tie.Need-slice-aggregate-no-codeword-3
+slice-aggregate-no-codeword-3 c = search needs
+
+no-codeword-requires : tie.Need-no-codeword-requires
+no-codeword-requires c κs = let u = c .before .before .before .before .before .before .before .before .before .before .before .before .pre in (u, c .before .before .before .before .before .before .before .if1 .left ∙ c .before .before .before .before .before .before .before .before .bytes-for .ensures, fresh (omega (arith, u .n-is, u .head .most)))
+
+returns-4 : tie.Need-returns-4
+returns-4 c = read-none (c .before .before .before .before .before .before .before .before .before .before .before .before .before .before .before .before .before .pre) _ _ (c .before .before .before .before .before .before .before .before .before .before .before .before .if1 .left ∙ c .before .before .before .before .before .before .before .before .before .before .before .before .before .bytes-for .ensures) (c .before .before .before .before .before .before .before .before .before .before .if2 .left ∙ c .before .before .before .before .before .before .before .before .before .before .before .bytes-for2 .ensures) (sym (c .before .before .before .before .before .before .before .before .before .spare-word .ensures) ∙ c .before .before .before .before .before .before .before .before .if3 .left) (c .before .before .before .before .no-codeword .ensures) (c .if4 .taken)
+
+sub-write-message : tie.Need-sub-write-message
+sub-write-message c = search needs
+
+slice-aggregate-write-message : tie.Need-slice-aggregate-write-message
+slice-aggregate-write-message c = search needs
+
+write-message-requires : tie.Need-write-message-requires
+write-message-requires c κs = let u = c .before .before .before .before .before .before .before .before .before .before .before .before .before .before .before .before .before .before .before .pre in record { word-long = split-long _ _ (u .k-le) (c .before .before .before .before .before .before .before .before .before .before .before .before .before .before .if1 .left ∙ c .before .before .before .before .before .before .before .before .before .before .before .before .before .before .before .bytes-for .ensures); out-long = c .before .before .before .before .before .before .before .before .before .before .before .before .if2 .left ∙ c .before .before .before .before .before .before .before .before .before .before .before .before .before .bytes-for2 .ensures; most = omega (arith, u .n-is, u .k-le, u .head .most); w-long = omega (arith, u .n-is, u .k-le, u .head .most, c .before .before .before .before .before .before .no-codeword .kept .1 .1 .1 .1 .1 .1 .1 .0); clear = c .before .before .before .before .before .before .no-codeword .ensures .clear (c .before .before .if4 .left) }
+
+same-length : tie.Need-same-length
+same-length c = c .before .before .before .write-message .kept .1 .1 .1 .1 .0
+
+returns-5 : tie.Need-returns-5
+returns-5 c = read-done (c .before .before .before .before .before .before .before .before .before .before .before .before .before .before .before .before .before .before .before .before .before .before .before .pre) _ _ (c .before .before .before .before .before .before .before .before .before .before .before .before .before .before .before .before .before .before .if1 .left ∙ c .before .before .before .before .before .before .before .before .before .before .before .before .before .before .before .before .before .before .before .bytes-for .ensures) (c .before .before .before .before .before .before .before .before .before .before .before .before .before .before .before .before .if2 .left ∙ c .before .before .before .before .before .before .before .before .before .before .before .before .before .before .before .before .before .bytes-for2 .ensures) (sym (c .before .before .before .before .before .before .before .before .before .before .before .before .before .before .before .spare-word .ensures) ∙ c .before .before .before .before .before .before .before .before .before .before .before .before .before .before .if3 .left) (c .before .before .before .before .before .before .before .before .before .before .no-codeword .ensures) (c .before .before .before .before .before .before .if4 .left) (c .before .before .before .write-message .ensures)
+
+pub read-accepted-spec : {M : Type 1} → statement M
+read-accepted-spec =
+    tie.close
+    (tie.spec
+    bytes-for-requires
+    returns
+    bytes-for-requires-2
+    returns-2
+    spare-word-requires
+    returns-3
+    array-write-generator
+    slice-aggregate-no-codeword
+    slice-aggregate-no-codeword-2
+    slice-aggregate-no-codeword-3
+    no-codeword-requires
+    returns-4
+    sub-write-message
+    slice-aggregate-write-message
+    write-message-requires
+    same-length
+    returns-5)

@@ -1,0 +1,72 @@
+// Words and messages in bytes: single places read and set, and spare bits. Each layout has functions of its own.
+ghost use mathlib.Core.Path.{_≡_};
+ghost use Prim.Native.Nat.{_/_, _<_, _≤_};
+ghost use lib.ListN.{length};
+ghost use Rattle.document.specs.Layout.{wordWeight, messageWeight, bytesFor, place, spare};
+ghost use Rattle.codeword.specs.Place.{Put};
+
+pub fn word_place(bytes: &[u8], i: usize) -> u8
+    requires { ⌜ i / 8 < length (now bytes) ⌝ }
+    ensures { λ r. ⌜ r ≡ place wordWeight (now (bytes .entry)) i ⌝ }
+{
+    (bytes[i / 8] >> (i % 8)) & 1
+}
+
+pub fn message_place(bytes: &[u8], i: usize) -> u8
+    requires { ⌜ i / 8 < length (now bytes) ⌝ }
+    ensures { λ r. ⌜ r ≡ place messageWeight (now (bytes .entry)) i ⌝ }
+{
+    (bytes[i / 8] >> (i % 8)) & 1
+}
+
+pub fn set_word_place(bytes: &mut [u8], i: usize, bit: u8)
+    requires { ⌜ (i / 8 < length (now bytes)) × (bit < 2) ⌝ }
+    ensures { λ _. ⌜ Put wordWeight i bit (now (bytes .entry)) (now (bytes .exit)) ⌝ }
+{
+    bytes[i / 8] = (bytes[i / 8] & !(1 << (i % 8))) | (bit << (i % 8));
+}
+
+pub fn set_message_place(bytes: &mut [u8], i: usize, bit: u8)
+    requires { ⌜ (i / 8 < length (now bytes)) × (bit < 2) ⌝ }
+    ensures { λ _. ⌜ Put messageWeight i bit (now (bytes .entry)) (now (bytes .exit)) ⌝ }
+{
+    bytes[i / 8] = (bytes[i / 8] & !(1 << (i % 8))) | (bit << (i % 8));
+}
+
+pub fn bytes_for(n: usize) -> usize
+    requires { ⌜ n ≤ 65535 ⌝ }
+    ensures { λ r. ⌜ r ≡ bytesFor n ⌝ }
+{
+    (n + 7) >> 3
+}
+
+// Whether a place from n on is 1.
+pub fn spare_word(n: usize, bytes: &[u8]) -> bool
+    requires { ⌜ (length (now bytes) ≡ bytesFor n) × (1 ≤ n) × (n ≤ 65535) ⌝ }
+    ensures { λ r. ⌜ r ≡ spare wordWeight n (now (bytes .entry)) ⌝ }
+{
+    let end = bytes.len() * 8;
+    let mut i = n;
+    while i < end {
+        if word_place(bytes, i) == 1 {
+            return true;
+        }
+        i = i + 1;
+    }
+    false
+}
+
+pub fn spare_message(n: usize, bytes: &[u8]) -> bool
+    requires { ⌜ (length (now bytes) ≡ bytesFor n) × (1 ≤ n) × (n ≤ 65535) ⌝ }
+    ensures { λ r. ⌜ r ≡ spare messageWeight n (now (bytes .entry)) ⌝ }
+{
+    let end = bytes.len() * 8;
+    let mut i = n;
+    while i < end {
+        if message_place(bytes, i) == 1 {
+            return true;
+        }
+        i = i + 1;
+    }
+    false
+}

@@ -1,2 +1,0 @@
-// A word in columns of four places.
-pub mod columns;

@@ -1,2 +1,0 @@
-// Whether two masks have a common factor.
-pub mod common;

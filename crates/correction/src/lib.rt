@@ -1,2 +1,0 @@
-// From a received word to the places to change, in lent slices.
-pub mod correct;

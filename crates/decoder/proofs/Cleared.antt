@@ -1,0 +1,85 @@
+-- The arrays as they are made.
+--
+--   cleared      an array of 0 has no coefficients
+--   lodged       a word of a code of fewer than k terms, in arrays of k
+--   degree-of, terms-few       s is a degree of the table, and L below 1,024
+--   small-tables, large-tables      room for the tables of a degree up to 8, and up to 12
+--   any-terms    where the long room is chosen, nothing is asked of L
+--   again        an answer made anew says what it said
+use mathlib.Core.Path.{_≡_, refl, sym, subst}
+use mathlib.Core.Logic.{_⊎_, inl, inr}
+use mathlib.Core.Bool.{true, false}
+use mathlib.Core.List.{List}
+use Prim.Native.Nat.{ℕ, _-_, _^_, _≤_, _<_}
+use native.Mathlib.Omega.{arith}
+use lib.ListN.{length, getD, replicate, length-replicate, getD-replicate, List·getD-eq-default}
+use lib.Pow.{pow-mono}
+use Rattle.algebra.proofs.Poly.{le-or-lt}
+use Rattle.field.specs.Field.{Degree}
+use Rattle.field.proofs.Search.{true-ne-false}
+use Rattle.field.specs.Tables as Tables
+use Rattle.document.proofs.Theory.{degree}
+use Rattle.certificate.specs.declared.types.Certificate.{Certificate as CodeCertificate}
+use Rattle.certificate.specs.Rules.{certificateAs}
+use Rattle.certificate.proofs.RulesHeld.{in-range}
+use Rattle.poly.specs.Slice.{Short}
+use Rattle.decoder.specs.declared.types.Correction.{Correction}
+use Rattle.decoder.specs.Correct.{Given, Workspace, Held, Correctable, correctedAs, Corrected}
+
+abbrev pub zeros : ℕ → List ℕ
+zeros m = replicate m 0
+
+cleared : (m : ℕ) → Short 0 (zeros m)
+cleared m = record { at = λ i h. go i (le-or-lt m i) }
+  where
+    go : (i : ℕ) → (m ≤ i) ⊎ (i < m) → _≡_ {A = ℕ} (getD (zeros m) i 0) 0
+    go i (inl h) = List·getD-eq-default (zeros m) 0 (omega (arith, length-replicate {A = ℕ} m 0))
+    go i (inr h) = getD-replicate {A = ℕ} m i 0 0 h
+
+room : {n L k : ℕ} {list : List ℕ} → n ≤ 127 → n ≤ length list → L < k
+    → Workspace n L (zeros 32) (zeros 128) (zeros k) (zeros k) (zeros k) (zeros k) (zeros k) (zeros k) (zeros k) (zeros k) list
+room {L = L} {k} h l m =
+    let z : length (zeros k) ≡ k = length-replicate {A = ℕ} k 0 in
+    let y : L < length (zeros k) = omega (arith, z) in
+    let x : length (zeros k) ≤ length (zeros k) = omega arith in
+    record {
+      col-long = omega arith;
+      list-long = l;
+      val-long = omega arith;
+      a-long = y;
+      b-long = y;
+      v-long = y;
+      x-long = y;
+      lg-long = (x, x);
+      st-long = (x, x);
+      lo-long = (x, x);
+      hi-long = (x, x);
+      a-zero = cleared k;
+      b-zero = cleared k;
+      v-zero = cleared k;
+      x-zero = cleared k;
+    }
+
+pub lodged : {n s t : ℕ} {c : CodeCertificate} {reps e g list w : List ℕ} (k : ℕ) → Given n s t c reps → Held n w → n ≤ length list
+    → Tables.Tables s e g → c .terms < k
+    → Correctable n s t c reps e g (zeros 32) (zeros 128) (zeros k) (zeros k) (zeros k) (zeros k) (zeros k) (zeros k) (zeros k) (zeros k) list w
+lodged k p h l y m = record { given = p; tables = y; room = room (p .most) l m; held = h }
+
+pub degree-of : {n s t : ℕ} {c : CodeCertificate} {reps : List ℕ} → Given n s t c reps → Degree s
+degree-of p = subst Degree (sym (p .s-is)) (degree (p .length-of))
+
+pub terms-few : {n s t : ℕ} {c : CodeCertificate} {reps : List ℕ} → Given n s t c reps → c .terms < 1024
+terms-few {c = c} {reps} p = omega (arith, in-range (p .length-of) reps (certificateAs c) (p .sound) .L-high)
+
+pub small-tables : {s : ℕ} → Degree s → s ≤ 8 → Tables.Fillable s (replicate 1280 0) (replicate 256 0)
+small-tables {s} d h = let b : 2 ^ s ≤ 2 ^ 8 = pow-mono h in record { degree = d; e-long = omega arith; g-long = omega arith }
+
+pub large-tables : {s : ℕ} → Degree s → Tables.Fillable s (replicate 20480 0) (replicate 4096 0)
+large-tables {s} d = let b : 2 ^ s ≤ 2 ^ 12 = pow-mono (d .hi) in record { degree = d; e-long = omega arith; g-long = omega arith }
+
+pub any-terms : {L : ℕ} → true ≡ false → L < 64
+any-terms e = absurd (true-ne-false refl e)
+
+pub again : {n t : ℕ} {reps w list : List ℕ} {x y : Correction} → Corrected n t reps w list (correctedAs x) → x ≡ y
+    → Corrected n t reps w list (correctedAs y)
+again {n} {t} {reps} {w} {list} h e = subst (λ z. Corrected n t reps w list (correctedAs z)) e h

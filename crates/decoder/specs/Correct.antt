@@ -1,0 +1,93 @@
+-- What correcting a word asks for, and says. No entry's contract cites this file.
+--
+--   Given n s t c reps       a certificate that keeps rules 1 to 4, with its radius
+--   Chosen                   one of two slices
+--   correctedAs, Verified    a correction in document 01's numbers, and what the last test lets through
+--   Workspace, Held, Correctable      lent slices that are long enough and hold 0 where they must, and a word
+--   Corrected                the codeword within t places, or that there is none
+use mathlib.Core.Path.{_≡_}
+use mathlib.Core.Bool.{Bool, true, false}
+use mathlib.Core.List.{List, [], _∷_}
+use Prim.Native.Nat.{ℕ, _+_, _-_, _*_, _/_, _^_, _≤_, _<_}
+use lib.ListN.{length, getD}
+use Rattle.field.specs.Mask.{_⊕_}
+use Rattle.field.specs.Field.{orderOfTwo}
+use Rattle.field.specs.Tables.{Tables}
+use Rattle.document.specs.Answer.{Answer, returned, refused}
+use Rattle.document.specs.Generator.{Codeword, differences}
+use Rattle.document.specs.Certificate.{radius}
+use Rattle.document.proofs.Theory.{Length}
+use Rattle.certificate.specs.declared.types.Certificate.{Certificate as CodeCertificate}
+use Rattle.certificate.specs.Rules.{certificateAs}
+use Rattle.certificate.proofs.RulesHeld.{Sound}
+use Rattle.binary.specs.Bits.{Holds}
+use Rattle.syndrome.specs.Sums.{Listed}
+use Rattle.poly.specs.Slice.{Short}
+use Rattle.syndrome.specs.Value.{Compared}
+use Rattle.decoder.specs.declared.types.Correction.{Correction}
+use Rattle.decoder.specs.declared.types.Correction.the-variants.{Places, None}
+
+pub record Given (n s t : ℕ) (c : CodeCertificate) (reps : List ℕ) : Type 0 where
+  pub length-of : Length n
+  pub most : n ≤ 127
+  pub s-is : s ≡ orderOfTwo n
+  pub below : (k : ℕ) → k < length reps → getD reps k 0 < n
+  pub sound : Sound n reps (certificateAs c)
+  pub t-is : t ≡ radius (certificateAs c)
+
+-- ---- one of two slices
+pub record Chosen (second : Bool) (v x lam : List ℕ) : Type 0 where
+  pub first : second ≡ false → lam ≡ v
+  pub last : second ≡ true → lam ≡ x
+
+-- ---- the last test
+-- "Decoding returns the number of changed places"; refusal 13, "no codeword within t places"
+abbrev pub correctedAs : Correction → Answer
+correctedAs (Places m) = returned (m ∷ [])
+correctedAs None = refused 13
+
+-- m listed places: 13 where they are more than t, or where there is no codeword with them changed
+pub record Verified (n s t m : ℕ) (list reps val : List ℕ) (answer : Answer) : Type 0 where
+  pub many : t < m → answer ≡ refused 13
+  pub right : Bool
+  pub tested : m ≤ t → Compared n s m list reps val right
+  pub yes : m ≤ t → right ≡ true → answer ≡ returned (m ∷ [])
+  pub no : m ≤ t → right ≡ false → answer ≡ refused 13
+
+-- ---- the whole
+pub record Workspace (n L : ℕ) (col val a b v x lg st lo hi list : List ℕ) : Type 0 where
+  pub col-long : (n + 7) / 8 * 2 ≤ length col
+  pub list-long : n ≤ length list
+  pub val-long : n ≤ length val
+  pub a-long : L < length a
+  pub b-long : L < length b
+  pub v-long : L < length v
+  pub x-long : L < length x
+  pub lg-long : (length v ≤ length lg) × (length x ≤ length lg)
+  pub st-long : (length v ≤ length st) × (length x ≤ length st)
+  pub lo-long : (length v ≤ length lo) × (length x ≤ length lo)
+  pub hi-long : (length v ≤ length hi) × (length x ≤ length hi)
+  pub a-zero : Short 0 a
+  pub b-zero : Short 0 b
+  pub v-zero : Short 0 v
+  pub x-zero : Short 0 x
+
+-- a word of n places, with room to the next whole byte
+pub record Held (n : ℕ) (w : List ℕ) : Type 0 where
+  pub word : ℕ
+  pub small : word < 2 ^ n
+  pub holds : Holds word w
+  pub long : n + 7 ≤ length w
+
+pub record Correctable (n s t : ℕ) (c : CodeCertificate) (reps e g col val a b v x lg st lo hi list w : List ℕ) : Type 0 where
+  pub given : Given n s t c reps
+  pub tables : Tables s e g
+  pub room : Workspace n (c .terms) col val a b v x lg st lo hi list
+  pub held : Held n w
+
+-- of whatever word r it was: m places are listed, m at most t, and with them changed it is a codeword, m places from it; or none
+-- is so near
+pub record Corrected (n t : ℕ) (reps w list : List ℕ) (answer : Answer) : Type 0 where
+  pub found : {r m : ℕ} → Holds r w → r < 2 ^ n → answer ≡ returned (m ∷ [])
+      → (a : ℕ) × Codeword n reps (r ⊕ a) × (m ≡ differences n r (r ⊕ a)) × (m ≤ t) × (a < 2 ^ n) × Listed n a list m
+  pub none : {r : ℕ} → Holds r w → r < 2 ^ n → answer ≡ refused 13 → (c : ℕ) → Codeword n reps c → t < differences n r c

@@ -1,0 +1,2 @@
+pub mod Correct
+pub mod Repair

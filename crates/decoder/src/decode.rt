@@ -1,0 +1,64 @@
+// Decoding an accepted sheet's word: the page that says how it goes.
+//
+// A received word r is a codeword c with places changed. c is 0 at α^i for every i of D, so r has there the value of the changes.
+// 1. Values (syndrome): r at α to each representative. All 0: r is a codeword, and the answer. Else the other values of D follow by
+//    squaring, since r(x^2) = r(x)^2 over two elements.
+// 2. Syndromes (syndrome): aj·r(α^(b + j·z)) for j below L, aj being the terms of the certificate's h/f. They are the first
+//    coefficients of a fraction whose denominator is the locator, the product of f(α^(i·z) x) over the wrong places i (document 001).
+// 3. Euclid (poly) on x^L and the syndromes, until a remainder has at most L - t·u coefficients. If at most t places are wrong, the
+//    cofactor is the locator up to a constant; if not, it is some polynomial.
+// 4. Places (locator): those whose factor f(α^(i·z) x) divides the cofactor.
+// 5. The last test: at most t places, with the value of r at each representative. Only then is r with them changed a codeword within t
+//    places, and the bytes are written (repair.rt); and if a codeword is within t places, these are the places in which it differs.
+//    Else the answer is 13.
+// Cost: some R·n/4 + L·t·u + n·t·u table reads for n places, R representatives and f of degree u. No pattern of errors is tried.
+ghost use mathlib.Core.Path.{_≡_};
+ghost use Rattle.document.specs.Answer.{repliedAs};
+ghost use Rattle.document.specs.Entry.{decodeOf};
+ghost use Rattle.codeword.specs.Codewords.{Usable, Recorded};
+use crate::arrays::correct_word;
+use crate::repair::repair;
+use crate::types::Correction;
+use certificate::range::read;
+use codeword::layout::bytes_for;
+use codeword::layout::spare_word;
+use codeword::spread::spread_word;
+use document::types::Refusal;
+use document::types::Reply;
+use sheet::header::byte;
+
+// Refusals 11, 12 and 13, and the corrected word where none is drawn.
+pub fn decode_accepted(
+    sheet: &[u8],
+    n: usize,
+    k: usize,
+    s: usize,
+    working: usize,
+    t: usize,
+    word: &[u8],
+    out: &mut [u8],
+) -> Reply
+    requires { ⌜ Usable (now sheet) n k s × Recorded (now sheet) working t ⌝ }
+    ensures { λ r. ⌜ (repliedAs r, now (out .exit)) ≡ decodeOf (now (sheet .entry)) (now (word .entry)) (now (out .entry)) ⌝ }
+{
+    if word.len() != bytes_for(n) {
+        return Reply::Refused(Refusal::BufferLength);
+    }
+    if out.len() != bytes_for(n) {
+        return Reply::Refused(Refusal::BufferLength);
+    }
+    if spare_word(n, word) {
+        return Reply::Refused(Refusal::SpareBit);
+    }
+    let reps = byte(sheet, 3);
+    let c = read(sheet, reps, working);
+    let mut bits = [0u8; 144];
+    let mut places = [0u8; 128];
+    spread_word(word, 0, n, &mut bits);
+    let end = 10 + reps;
+    let Correction::Places(m) = correct_word(n, s, t, c, &sheet[10..end], &mut places, &bits) else {
+        return Reply::Refused(Refusal::NoneNear);
+    };
+    repair(word, &places, m, out);
+    Reply::Done(m)
+}

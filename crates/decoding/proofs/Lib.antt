@@ -1,4 +1,0 @@
-pub mod Reception
-pub mod Verdict
-pub mod Correcting
-pub mod Arrays

@@ -1,1 +1,0 @@
-// Laws only: what a certificate proves of a sheet's code.

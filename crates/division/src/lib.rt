@@ -1,2 +1,0 @@
-// A remainder reduced by another until it is shorter, with its cofactor.
-pub mod division;

@@ -1,2 +1,0 @@
-// Encoding, for an accepted sheet.
-pub mod encode;

@@ -1,3 +1,0 @@
-pub mod Sums
-pub mod Lanes
-pub mod Columns

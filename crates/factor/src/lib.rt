@@ -1,2 +1,0 @@
-// Whether two numbers are coprime, and what degree a mask has.
-pub mod factor;

@@ -1,2 +1,0 @@
-// The generator's factor of one coset.
-pub mod coset;

@@ -1,2 +1,0 @@
-// Bytes copied, and listed places of a word flipped.
-pub mod flips;

@@ -1,0 +1,3 @@
+pub mod Wrote
+pub mod Text
+pub mod Accepted

@@ -1,2 +1,0 @@
-// Reading out, for an accepted sheet.
-pub mod read;

@@ -1,2 +1,0 @@
-// The numbers of refusals.
-pub mod number;

@@ -1,2 +1,0 @@
-// A received word's bytes with listed places changed.
-pub mod repair;

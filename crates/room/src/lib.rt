@@ -1,2 +1,0 @@
-// The arrays that correcting a word works in, by the code's size.
-pub mod room;

@@ -1,2 +1,0 @@
-// Rules 3 and 4 of a certificate.
-pub mod rules;

@@ -1,2 +1,0 @@
-// A word's values along a coset, by squaring.
-pub mod coset;

@@ -1,0 +1,48 @@
+-- A word of 4 b places in b columns, each with the places i, b + i, 2 b + i and 3 b + i in lanes. No entry's contract cites this file.
+--
+--   runSum h w at m     the sum of h i over the i below m at which w has a 1 at place at + i
+--   column b w i        the four places of column i
+--   Columnable, Columned      the columns of a word: what they need, and what they are
+--   Summable b s by col e     columns of some word, and the powers of ω
+--   Strips              the sums of ω^(i by) over the places of each lane
+--   Valued              and the value that they make together
+use mathlib.Core.Path.{_≡_}
+use mathlib.Core.List.{List}
+use Prim.Native.Nat.{ℕ, zero, suc, _+_, _-_, _*_, _%_, _^_, _≤_, _<_}
+use lib.ListN.{length, getD}
+use Rattle.field.specs.Mask.{_⊕_}
+use Rattle.field.specs.Field.{ω, fieldPower}
+use Rattle.field.specs.Tables.{Powered}
+use Rattle.syndrome.specs.Lanes.{inLanes, lane}
+
+unfoldable pub runSum : (ℕ → ℕ) → List ℕ → (at m : ℕ) → ℕ
+runSum h w at zero = 0
+runSum h w at (suc i) = runSum h w at i ⊕ getD w (at + i) 0 * h i
+
+unfoldable pub column : ℕ → List ℕ → ℕ → ℕ
+column b w i = inLanes (λ j. getD w (j * b + i) 0)
+
+pub record Columnable (b : ℕ) (w : List ℕ) : Type 0 where
+  pub bits : (i : ℕ) → getD w i 0 < 2
+  pub long : 4 * b ≤ length w
+  pub few : b ≤ 65535
+
+pub record Columned (b : ℕ) (w col : List ℕ) : Type 0 where
+  pub bits : (i : ℕ) → getD w i 0 < 2
+  pub at : (i : ℕ) → i < b → getD col i 0 ≡ column b w i
+
+pub record Summable (b s by : ℕ) (col e : List ℕ) : Type 0 where
+  pub powered : Powered s e
+  pub by-lt : by < 2 ^ s - 1
+  pub b-lt : b < 2 ^ s - 1
+  pub even : b % 2 ≡ 0
+  pub long : b ≤ length col
+  pub word : List ℕ
+  pub columned : Columned b word col
+
+pub record Strips (b s by : ℕ) (col : List ℕ) (r : ℕ) : Type 0 where
+  pub at : (w : List ℕ) → Columned b w col → (j : ℕ) → j < 4 → lane j r ≡ runSum (λ i. fieldPower s ω (i * by)) w (j * b) b
+
+pub record Valued (b s by : ℕ) (col : List ℕ) (r : ℕ) : Type 0 where
+  pub is : (w : List ℕ) → Columned b w col → r ≡ runSum (λ i. fieldPower s ω (i * by)) w 0 (4 * b)
+  pub lt : r < 2 ^ s

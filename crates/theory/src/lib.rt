@@ -1,1 +1,0 @@
-// Demand 2 in the words of the definitions: laws only.

@@ -1,2 +1,0 @@
-// Words and messages in bytes.
-pub mod layout;

@@ -74,11 +74,11 @@ module _ {sheet : List ℕ} {n k s working t : ℕ} (u : Usable sheet n k s) (re
     omega (arith, rec .working-is, working-most (certificateCount sheet) (λ c. radius (certificate sheet c)) 0 (u .head .one) .0),
   )
 
-  pub held : {word w : List ℕ} → Spread wordWeight 0 0 n word (replicate 144 0) w → length w ≡ 144 → Held n w
+  pub held : {word w : List ℕ} → Spread wordWeight 0 0 n word (replicate 128 0) w → length w ≡ 128 → Held n w
   held {word} a l = record {
     word = maskOf wordWeight n word;
     small = mask-lt wordWeight n word;
-    holds = word-holds n a (zeros 144);
+    holds = word-holds n a (zeros 128);
     long = omega (arith, l, u .n-is, u .head .most);
   }
 
@@ -106,11 +106,11 @@ module _ {sheet : List ℕ} {n k s working t : ℕ} (u : Usable sheet n k s) (re
       → Corrected n t (representatives sheet) w list answer
   at-sheet {w = w} {list} {answer} er y = subst (λ (reps : List ℕ). Corrected n t reps w list answer) (part-is u er) y
 
-  pub repairable : {m : ℕ} {reps word w list out : List ℕ} {answer : Answer} → Spread wordWeight 0 0 n word (replicate 144 0) w
+  pub repairable : {m : ℕ} {reps word w list out : List ℕ} {answer : Answer} → Spread wordWeight 0 0 n word (replicate 128 0) w
       → Corrected n t reps w list answer → answer ≡ returned (m ∷ []) → length word ≡ bytesFor n → length out ≡ bytesFor n → length list ≡ 128
       → Repairable word list m out
   repairable {word = word} a y e lw lo ll =
-      let f = y .found (word-holds n a (zeros 144)) (mask-lt wordWeight n word) e .5 in
+      let f = y .found (word-holds n a (zeros 128)) (mask-lt wordWeight n word) e .5 in
       record {
         long = lo ∙ sym lw;
         listed = omega (arith, f .le, ll, u .n-is, u .head .most);
@@ -151,7 +151,7 @@ module _ {sheet : List ℕ} {n k s working t : ℕ} (u : Usable sheet n k s) (re
             (ap (λ (x : ℕ). spare wordWeight x word) (sym (u .n-is)) ∙ h))
 
         module _ (d : spare wordWeight n word ≡ false) {r : ℕ} (er : r ≡ byteAt sheet 3) {w : List ℕ}
-            (spread : Spread wordWeight 0 0 n word (replicate 144 0) w) where
+            (spread : Spread wordWeight 0 0 n word (replicate 128 0) w) where
           received : Decoding.RightForm sheet word out
           received = record {
             word-long = a ∙ ap bytesFor (u .n-is);
@@ -160,7 +160,7 @@ module _ {sheet : List ℕ} {n k s working t : ℕ} (u : Usable sheet n k s) (re
           }
 
           holds : Holds (maskOf wordWeight n word) w
-          holds = word-holds n spread (zeros 144)
+          holds = word-holds n spread (zeros 128)
 
           there : (c : ℕ) → differences n (maskOf wordWeight n word) c ≡ differences (codeLength sheet) (wordOf sheet word) c
           there c = ap (λ (m : ℕ). differences m (maskOf wordWeight m word) c) (u .n-is)

@@ -77,7 +77,7 @@ pub record Held (n : ℕ) (w : List ℕ) : Type 0 where
   pub word : ℕ
   pub small : word < 2 ^ n
   pub holds : Holds word w
-  pub long : n + 7 ≤ length w
+  pub long : (n + 7) / 8 * 8 ≤ length w
 
 pub record Correctable (n s t : ℕ) (c : CodeCertificate) (reps e g col val a b v x lg st lo hi list w : List ℕ) : Type 0 where
   pub given : Given n s t c reps

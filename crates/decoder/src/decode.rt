@@ -52,7 +52,7 @@ pub fn decode_accepted(
     }
     let reps = byte(sheet, 3);
     let c = read(sheet, reps, working);
-    let mut bits = [0u8; 144];
+    let mut bits = [0u8; 128];
     let mut places = [0u8; 128];
     spread_word(word, 0, n, &mut bits);
     let end = 10 + reps;

@@ -40,7 +40,7 @@ pub record Computable (n s : ℕ) (w reps e g col val : List ℕ) : Type 0 where
   pub setting : Evaluable n s reps e
   pub tables : Tables s e g
   pub bits : (i : ℕ) → getD w i 0 < 2
-  pub w-long : n + 7 ≤ length w
+  pub w-long : (n + 7) / 8 * 8 ≤ length w
   pub col-long : (n + 7) / 8 * 2 ≤ length col
   pub val-long : n ≤ length val
 

@@ -155,14 +155,14 @@ module _ (sheet : List ℕ) where
     whole : n - k + k ≡ n
     whole = omega (arith, u .k-le)
 
-    no-room : Holds 0 []
-    no-room = record { at = λ i. sym (coefficient-zero i) }
+    no-places : Holds 0 []
+    no-places = record { at = λ i. sym (coefficient-zero i) }
 
     pub reads : {word : List ℕ} (out : List ℕ) → Word word → length out ≡ bytesFor k → isCodeword (n - k) g (wordOf sheet word) ≡ true
         → (returned (0 ∷ []), messageIn word) ≡ readOf sheet word out
     reads {word} out w b c =
         read-done u word out (w .long) b (w .clear) {w = []} {r = false}
-        (record { is = sym (ap not c); clear = λ z. no-room }) refl
+        (record { is = sym (ap not c); clear = λ z. no-places }) refl
         (record { is = ap (λ (x : ℕ). bytesOf messageWeight k (messageOf (n - k) (maskOf wordWeight x word))) (sym whole) })
 
     pub message-back : {message : List ℕ} → Message message → messageIn (codewordOf message) ≡ message
@@ -197,7 +197,7 @@ module _ (sheet : List ℕ) where
         → (refused 14, out) ≡ readOf sheet word out
     none-refused {word} out w b c =
         read-none u word out (w .long) b (w .clear) {w = []} {r = true}
-        (record { is = sym (ap not c); clear = λ z. no-room }) refl
+        (record { is = sym (ap not c); clear = λ z. no-places }) refl
 
   -- ---- only such a word
   abbrev cond : List ℕ → List ℕ → Conditions

@@ -7,7 +7,7 @@
 --   encoded              message, division, message again: the places of the codeword
 --   encoded-bytes, message-read      and packed into bytes
 --   for-most             bytes have fewer than eight spare places
---   zeros, fresh         room as the entries make it
+--   zeros, fresh         arrays as the entries make them
 use mathlib.Core.Path.{_≡_, refl, sym, ap, ap₂, _∙_, subst}
 use mathlib.Core.Logic.{_⊎_, inl, inr}
 use mathlib.Core.Bool.{Bool, true, false, not}
@@ -161,7 +161,7 @@ pub message-read : {m k : ℕ} {word w w₁ out : List ℕ} → Spread wordWeigh
 unfolding messageOf
 message-read {m} {k} {word} a p z long bytes = record { is = packed-is message-weights k p (spread-part refl a z) long bytes }
 
--- ---- room
+-- ---- arrays
 pub zeros : (m : ℕ) → Holds 0 (replicate m 0)
 zeros m = record { at = λ i. go i (le-or-lt m i) ∙ sym (coefficient-zero i) }
   where

@@ -2,7 +2,7 @@
 --
 --   Usable sheet n k s      an accepted sheet with its numbers
 --   Recorded sheet working t     and which certificate works, with its t
---   Fresh n g p w           room for a code of length n: g holds 1, and w holds 0
+--   Fresh n g p w           slices for a code of length n: g holds 1, and w holds 0
 --   Generated sheet n m g w      g holds the sheet's generator, of degree m, and w holds 0
 --   Encodable, Encoded      lengths of message and codeword, and what the codeword's places are
 --   Readable, MessageRead   the same for reading out

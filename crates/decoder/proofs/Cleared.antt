@@ -3,8 +3,8 @@
 --   cleared      an array of 0 has no coefficients
 --   lodged       a word of a code of fewer than k terms, in arrays of k
 --   degree-of, terms-few       s is a degree of the table, and L below 1,024
---   small-tables, large-tables      room for the tables of a degree up to 8, and up to 12
---   any-terms    where the long room is chosen, nothing is asked of L
+--   small-tables, large-tables      arrays for the tables of a degree up to 8, and up to 12
+--   any-terms    where the long arrays are chosen, nothing is asked of L
 --   again        an answer made anew says what it said
 use mathlib.Core.Path.{_≡_, refl, sym, subst}
 use mathlib.Core.Logic.{_⊎_, inl, inr}
@@ -36,9 +36,9 @@ cleared m = record { at = λ i h. go i (le-or-lt m i) }
     go i (inl h) = List·getD-eq-default (zeros m) 0 (omega (arith, length-replicate {A = ℕ} m 0))
     go i (inr h) = getD-replicate {A = ℕ} m i 0 0 h
 
-room : {n L k : ℕ} {list : List ℕ} → n ≤ 127 → n ≤ length list → L < k
+space : {n L k : ℕ} {list : List ℕ} → n ≤ 127 → n ≤ length list → L < k
     → Workspace n L (zeros 32) (zeros 128) (zeros k) (zeros k) (zeros k) (zeros k) (zeros k) (zeros k) (zeros k) (zeros k) list
-room {L = L} {k} h l m =
+space {L = L} {k} h l m =
     let z : length (zeros k) ≡ k = length-replicate {A = ℕ} k 0 in
     let y : L < length (zeros k) = omega (arith, z) in
     let x : length (zeros k) ≤ length (zeros k) = omega arith in
@@ -63,7 +63,7 @@ room {L = L} {k} h l m =
 pub lodged : {n s t : ℕ} {c : CodeCertificate} {reps e g list w : List ℕ} (k : ℕ) → Given n s t c reps → Held n w → n ≤ length list
     → Tables.Tables s e g → c .terms < k
     → Correctable n s t c reps e g (zeros 32) (zeros 128) (zeros k) (zeros k) (zeros k) (zeros k) (zeros k) (zeros k) (zeros k) (zeros k) list w
-lodged k p h l y m = record { given = p; tables = y; room = room (p .most) l m; held = h }
+lodged k p h l y m = record { given = p; tables = y; space = space (p .most) l m; held = h }
 
 pub degree-of : {n s t : ℕ} {c : CodeCertificate} {reps : List ℕ} → Given n s t c reps → Degree s
 degree-of p = subst Degree (sym (p .s-is)) (degree (p .length-of))

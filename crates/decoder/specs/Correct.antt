@@ -72,7 +72,7 @@ pub record Workspace (n L : ℕ) (col val a b v x lg st lo hi list : List ℕ) :
   pub v-zero : Short 0 v
   pub x-zero : Short 0 x
 
--- a word of n places, with room to the next whole byte
+-- a word of n places, and 0 up to the next whole byte
 pub record Held (n : ℕ) (w : List ℕ) : Type 0 where
   pub word : ℕ
   pub small : word < 2 ^ n
@@ -82,7 +82,7 @@ pub record Held (n : ℕ) (w : List ℕ) : Type 0 where
 pub record Correctable (n s t : ℕ) (c : CodeCertificate) (reps e g col val a b v x lg st lo hi list w : List ℕ) : Type 0 where
   pub given : Given n s t c reps
   pub tables : Tables s e g
-  pub room : Workspace n (c .terms) col val a b v x lg st lo hi list
+  pub space : Workspace n (c .terms) col val a b v x lg st lo hi list
   pub held : Held n w
 
 -- of whatever word r it was: m places are listed, m at most t, and with them changed it is a codeword, m places from it; or none

@@ -4,7 +4,7 @@
 --   first-power, next-power      x is 1 at first, and then ω x
 --   logs-none, logs-more         their logarithms so far
 --   filled                       the tables, when all powers are there and the entry of 0 is set
---   room-kept                    room stays where lengths do
+--   fillable-kept                slices of the same lengths can be filled too
 use mathlib.Core.Path.{_≡_, refl, sym, ap, _∙_}
 use mathlib.Core.List.{List}
 use Prim.Native.Nat.{ℕ, _+_, _-_, _*_, _^_, _≤_, _<_}
@@ -87,5 +87,5 @@ filled {s} {n} {i} {g} {e′} {g′} r o l v w = record {
         getD-set-other g′ 0 a n 0 z ∙ ap (λ (j : ℕ). getD g′ j 0) (sym (q .2)) ∙ w .at (q .0) (omega (arith, q .1))
         ∙ sym (ap (logarithm s) (sym (q .2)) ∙ logarithm-of (r .degree) (q .0) (q .1))
 
-pub room-kept : {s : ℕ} {e g e′ g′ : List ℕ} → length e′ ≡ length e → length g′ ≡ length g → Fillable s e g → Fillable s e′ g′
-room-kept p q r = record { degree = r .degree; e-long = omega (arith, p, r .e-long); g-long = omega (arith, q, r .g-long) }
+pub fillable-kept : {s : ℕ} {e g e′ g′ : List ℕ} → length e′ ≡ length e → length g′ ≡ length g → Fillable s e g → Fillable s e′ g′
+fillable-kept p q r = record { degree = r .degree; e-long = omega (arith, p, r .e-long); g-long = omega (arith, q, r .g-long) }

@@ -66,7 +66,7 @@ module _ {n s r a : ℕ} (w : CosetWalk n s r a) where
     degree = degree-of;
     small = λ i. subst (λ (x : ℕ). x < 2 ^ s) (sym (e i)) (product-small degree-of (α s n) (walk n r m) i);
     none = λ i k. e i ∙ product-none m i k;
-    room = omega arith;
+    fits = omega arith;
   }
 
   start-holds : {p : List ℕ} → One s p → (i : ℕ) → getD p i 0 ≡ getD (rootProduct s (α s n) (walk n r 0)) i 0
@@ -74,7 +74,7 @@ module _ {n s r a : ℕ} (w : CosetWalk n s r a) where
   start-holds o = o .one
 
   pub start-roomy : {p : List ℕ} → One s p → Extensible s 0 p
-  start-roomy o = roomy 0 (omega (arith, w .s-is, order-pos n)) (o .room) (start-holds o)
+  start-roomy o = roomy 0 (omega (arith, w .s-is, order-pos n)) (o .fits) (start-holds o)
 
   pub root-lt : a < 2 ^ s
   root-lt = subst (λ (x : ℕ). x < 2 ^ s) (sym (w .a-is)) (power-lt degree-of (α s n) r)

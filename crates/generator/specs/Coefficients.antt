@@ -1,10 +1,10 @@
 -- What the making of the generator passes on. No entry's contract cites this file.
 --
---   Extensible s m p          p holds elements, none but 0 above the degree m, and has room for one more
+--   Extensible s m p          p holds elements, none but 0 above the degree m, and is long enough for one more
 --   Timed s a p p′       p′ is p times x - a, coefficient by coefficient
 --   walk n r j           the last of the coset's first j members r, 2r, 4r, .. to the first
 --   CosetWalk n s r a      what the walk of a coset needs: a is α^r
---   Unit p               p holds the polynomial 1; One s p: and has room for degree s
+--   Unit p               p holds the polynomial 1; One s p: and is long enough for degree s
 --   CosetWalked n s r m p     what it leaves: m members, and p holds the product of x - α^i over them
 use mathlib.Core.Path.{_≡_}
 use mathlib.Core.Logic.{_≢_}
@@ -19,7 +19,7 @@ pub record Extensible (s m : ℕ) (p : List ℕ) : Type 0 where
   pub degree : Degree s
   pub small : (i : ℕ) → getD p i 0 < 2 ^ s
   pub none : (i : ℕ) → m < i → getD p i 0 ≡ 0
-  pub room : m + 1 < length p
+  pub fits : m + 1 < length p
 
 pub record Timed (s a : ℕ) (p p′ : List ℕ) : Type 0 where
   pub low : getD p′ 0 0 ≡ fieldMultiply s a (getD p 0 0)
@@ -37,7 +37,7 @@ pub record CosetWalk (n s r a : ℕ) : Type 0 where
   pub a-is : a ≡ fieldPower s (α s n) r
 
 pub record One (s : ℕ) (p : List ℕ) : Type 0 where
-  pub room : s < length p
+  pub fits : s < length p
   pub one : (i : ℕ) → getD p i 0 ≡ getD (1 ∷ []) i 0
 
 pub record Unit (p : List ℕ) : Type 0 where

@@ -32,7 +32,7 @@ pub listable-of : (sheet : List ℕ) {zeros g : List ℕ} {n k s working t : ℕ
     → n ≡ codeLength sheet → k ≡ dimensionOf sheet → s ≡ orderOfTwo n → working ≡ workingOf sheet
     → t ≡ radius (workingCertificate sheet) → Marks n (representatives sheet) zeros → Holds (generator n (representatives sheet)) g
     → n < length g → Listable sheet n k s working t zeros g
-listable-of sheet h q n-is k-is s-is working-is t-is marks holds room = record {
+listable-of sheet h q n-is k-is s-is working-is t-is marks holds fits = record {
   head = h;
   passes = quiet-passes sheet q;
   n-is = n-is;
@@ -42,7 +42,7 @@ listable-of sheet h q n-is k-is s-is working-is t-is marks holds room = record {
   t-is = t-is;
   marks = marks;
   holds = holds;
-  room = room;
+  fits = fits;
 }
 
 module _ (sheet : List ℕ) where

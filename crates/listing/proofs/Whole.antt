@@ -60,7 +60,7 @@ module _ {sheet zeros g : List ℕ} {n k s working t : ℕ} (l : Listable sheet 
     dimension = omega (arith, k-is, dimension-le n (representatives sheet));
     degree = omega (arith, s-is, l .head .degree);
     marked = l .marks .long;
-    held = l .room;
+    held = l .fits;
     binary = held-binary (l .holds);
   }
 

@@ -33,4 +33,4 @@ pub record Listable (sheet : List ℕ) (n k s working t : ℕ) (zeros g : List �
   pub t-is : t ≡ radius (workingCertificate sheet)
   pub marks : Marks n (representatives sheet) zeros
   pub holds : Holds (generator n (representatives sheet)) g
-  pub room : n < length g
+  pub fits : n < length g

@@ -41,8 +41,8 @@ pub record Entry (s back k c x l at r : ℕ) (lam lg st : List ℕ) : Type 0 whe
   pub none : x ≡ 0 → r ≡ 0
   pub some : 0 < x → r ≡ 1
   pub once : r ≤ 1
-  pub lg-room : c < length lg
-  pub st-room : c < length st
+  pub lg-fits : c < length lg
+  pub st-fits : c < length st
 
 pub record LaneSum (s back f u k : ℕ) (lam lg st co : List ℕ) (o v c : ℕ) : Type 0 where
   pub of : (m : ℕ) → m < c → (p : ℕ) × (getD co m 0 ≡ lanes (remainder u f (2 ^ p) / 2 ^ o))
@@ -95,14 +95,14 @@ module _ {s back k c x l at r : ℕ} {lam lg st : List ℕ} (n : Entry s back k 
 
   pub listed-more : Logged s c lg st → Logged s (c + r) (set lg c l) (set st c at)
   listed-more v = record {
-    lg-long = simp length-set (omega (arith, n .once, n .lg-room));
-    st-long = simp length-set (omega (arith, n .once, n .st-room));
+    lg-long = simp length-set (omega (arith, n .once, n .lg-fits));
+    st-long = simp length-set (omega (arith, n .once, n .st-fits));
     logs = λ m h. elim (ℕ-discrete m c) [
-      | yes e ↦ subst (λ (y : ℕ). y < 2 ^ s - 1) (sym (here lg l (n .lg-room) m e)) (log-is (new h e) .0)
+      | yes e ↦ subst (λ (y : ℕ). y < 2 ^ s - 1) (sym (here lg l (n .lg-fits) m e)) (log-is (new h e) .0)
       | no e ↦ subst (λ (y : ℕ). y < 2 ^ s - 1) (sym (getD-set-other lg c m l 0 e)) (v .logs m (old h e))
     ];
     steps = λ m h. elim (ℕ-discrete m c) [
-      | yes e ↦ subst (λ (y : ℕ). y < 2 ^ s - 1) (sym (here st at (n .st-room) m e)) (n .at-lt)
+      | yes e ↦ subst (λ (y : ℕ). y < 2 ^ s - 1) (sym (here st at (n .st-fits) m e)) (n .at-lt)
       | no e ↦ subst (λ (y : ℕ). y < 2 ^ s - 1) (sym (getD-set-other st c m at 0 e)) (v .steps m (old h e))
     ];
   }
@@ -173,7 +173,7 @@ module _ {s back k c x l at r : ℕ} {lam lg st : List ℕ} (n : Entry s back k 
           ∙ ap (lane j) (sym (⊕-assoc v _ _)) ∙ lane-add j _ _
           ∙ ap₂ _⊕_ (ap (λ (a : ℕ). lane j (v ⊕ a)) (kept i) ∙ w .sum i j b)
           (ap₂ (λ (a z : ℕ). lane j (a * fieldPower s ω z)) (getD-set-same co c e 0 h ∙ e-is)
-          (ap₂ (λ (a z : ℕ). a + i * z) (getD-set-same lg c l 0 (n .lg-room)) (getD-set-same st c at 0 (n .st-room)))
+          (ap₂ (λ (a z : ℕ). a + i * z) (getD-set-same lg c l 0 (n .lg-fits)) (getD-set-same st c at 0 (n .st-fits)))
           ∙ lane-mask (y / 2 ^ o) p p-lt j b
           ∙ ap₂ _*_ (ap (λ (a : ℕ). a % 2) (shr-shr y o j)) (power-at q i))
           ∙ sym (next i j)

@@ -97,8 +97,8 @@ walking-more {s} {back} {f} {u} {len} {k} {c} {at} {y} {r} {a} {b} {end} {at′}
       none = r0;
       some = r1;
       once = r-le;
-      lg-room = omega (arith, w .fewer, p .locator .lg-long);
-      st-room = omega (arith, w .fewer, p .locator .st-long);
+      lg-fits = omega (arith, w .fewer, p .locator .lg-long);
+      st-fits = omega (arith, w .fewer, p .locator .st-long);
     }
 
 -- ---- the end

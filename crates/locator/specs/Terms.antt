@@ -4,7 +4,7 @@
 --   termSum s lg st κ i c   the sum of κ m ω^(lg m + i st m) over the terms m below c
 --   vanishes                whether all coefficients of the remainder at place i are 0: a lane of two such sums for each
 --   aloneAt, vanishesAlone  the same for f = 1 + x: the one coefficient of the remainder
---   LocatorSlices                 a locator of at most len coefficients, and room for its terms
+--   LocatorSlices                 a locator of at most len coefficients, and slices long enough for its terms
 --   TermsListable, TermsListed        the locator's terms: what listing them needs, and leaves
 --   Logged s c lg st        logarithms and steps of c terms
 --   Laned u c lo hi         the remainders of c terms, in lanes

@@ -1,6 +1,6 @@
 -- The key equation Λ S = Ω modulo x^l in slices: what Euclid's algorithm asks for, and the solution that it leaves.
 --
---   Solvable s l stop a b v w e g     b holds the series S below l; a, v and w hold 0, and all four have room
+--   Solvable s l stop a b v w e g     b holds the series S below l; a, v and w hold 0, and all four are long enough
 --   Key d l stop S t n                t is the cofactor of a remainder of at most stop coefficients, and has n of its own
 --   Solved s l stop S t n             the slice t holds that cofactor in its first n places, in every field of degree s
 --   Outcome s l stop S second n v w   it is in w where second, and else in v

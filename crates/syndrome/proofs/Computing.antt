@@ -5,7 +5,7 @@
 --   Testing, testing-start, testing-more, testing-end, testing-wrong      a codeword is 0 at each representative
 --   Quiet, quiet-zero, quiet-other, quiet-start, quiet-more, quiet-end      whether the values so far are 0
 --   Values, values-start, values-more, values-end      all that the loop keeps
---   values-summable, values-by, values-room      what a turn needs
+--   values-summable, values-by, values-in      what a turn needs
 use mathlib.Core.Path.{_≡_, refl, sym, ap, ap₂, _∙_, subst}
 use mathlib.Core.Logic.{_≢_}
 use mathlib.Core.Bool.{Bool, true, false, _&&_}
@@ -72,9 +72,9 @@ computing-start = record { done = λ c h l i b. absurd (omega arith) }
 
 pub computing-more : {n s k r v : ℕ} {w reps val : List ℕ} → Computing n s k w reps val → r ≡ getD reps k 0 → r < length val
     → ((c : ℕ) → Holds c w → c < 2 ^ n → v ≡ valueOf n s c r) → Computing n s (k + 1) w reps (set val r v)
-computing-more {n} {s} {k} {r} {v} {w} {reps} {val} t e room f = record {
+computing-more {n} {s} {k} {r} {v} {w} {reps} {val} t e inside f = record {
   done = λ c h l i b. elim (ℕ-discrete (getD reps i 0) r) [
-    | yes q ↦ ap (λ (x : ℕ). getD (set val r v) x 0) q ∙ getD-set-same val r v 0 room ∙ f c h l ∙ ap (valueOf n s c) (sym q)
+    | yes q ↦ ap (λ (x : ℕ). getD (set val r v) x 0) q ∙ getD-set-same val r v 0 inside ∙ f c h l ∙ ap (valueOf n s c) (sym q)
     | no q ↦ getD-set-other val r (getD reps i 0) v 0 q
         ∙ t .done c h l i (before i b (λ z. q (ap (λ (x : ℕ). getD reps x 0) z ∙ sym e)))
   ];
@@ -175,10 +175,10 @@ quiet-end {n} {w = w} {reps} {quiet = quiet} p h t = go quiet refl
     go true q = subst (ValuesTested n w reps) (sym q) (testing-end p h (t .yes q))
     go false q = subst (ValuesTested n w reps) (sym q) (t .no q)
 
--- ---- all that the loop over the representatives keeps; the columns were given as `room`
+-- ---- all that the loop over the representatives keeps; the columns were given as `empty`
 pub record Values (n s b q count : ℕ) (w reps e g col val₀ val : List ℕ) (clean : Bool) (k : ℕ) : Type 0 where
-  pub room : List ℕ
-  pub given : Computable n s w reps e g room val₀
+  pub empty : List ℕ
+  pub given : Computable n s w reps e g empty val₀
   pub b-is : b ≡ (n + 7) / 8 * 2
   pub b-le : b ≤ length col
   pub columned : Columned b w col
@@ -189,11 +189,11 @@ pub record Values (n s b q count : ℕ) (w reps e g col val₀ val : List ℕ) (
   pub computing : Computing n s k w reps val
   pub quiet : Quiet n s k w reps clean
 
-pub values-start : {n s o : ℕ} {w reps e g room col val : List ℕ} → Computable n s w reps e g room val
-    → length col ≡ length room → Columned ((n + 7) / 8 * 2) w col → o ≡ 2 ^ s - 1
+pub values-start : {n s o : ℕ} {w reps e g empty col val : List ℕ} → Computable n s w reps e g empty val
+    → length col ≡ length empty → Columned ((n + 7) / 8 * 2) w col → o ≡ 2 ^ s - 1
     → Values n s ((n + 7) / 8 * 2) (o / n) (length reps) w reps e g col val val true 0
-values-start {n} {room = room} p l c o-is = record {
-  room = room;
+values-start {n} {empty = empty} p l c o-is = record {
+  empty = empty;
   given = p;
   b-is = refl;
   b-le = omega (arith, p .col-long);
@@ -217,8 +217,8 @@ module _ {n s b q count k : ℕ} {w reps e g col val₀ val : List ℕ} {clean :
   pub values-by : getD reps k 0 * q < 4096
   values-by = omega (arith, by-lt (t .given .setting) (t .q-is) {k = k} here refl, Degree-bounds (t .given .tables .degree) .1)
 
-  pub values-room : (getD reps k 0 < 65535) × (getD reps k 0 < length val)
-  values-room =
+  pub values-in : (getD reps k 0 < 65535) × (getD reps k 0 < length val)
+  values-in =
       let l = t .given .setting .below k here in
       (omega (arith, t .given .setting .odd .most), omega (arith, t .given .val-long, t .kept))
 
@@ -227,7 +227,7 @@ module _ {n s b q count k : ℕ} {w reps e g col val₀ val : List ℕ} {clean :
   values-more y o =
       let f = value-here (t .given) (t .b-is) (t .q-is) _ (t .columned) y in
       record {
-        room = t .room;
+        empty = t .empty;
         given = t .given;
         b-is = t .b-is;
         b-le = t .b-le;
@@ -236,7 +236,7 @@ module _ {n s b q count k : ℕ} {w reps e g col val₀ val : List ℕ} {clean :
         count-is = t .count-is;
         k-le = omega arith;
         kept = simp length-set (t .kept);
-        computing = computing-more (t .computing) refl (values-room .1) f;
+        computing = computing-more (t .computing) refl (values-in .1) f;
         quiet = subst (Quiet n s (k + 1) w reps) (sym o) (quiet-more (t .given .setting) here refl f (t .quiet));
       }
 

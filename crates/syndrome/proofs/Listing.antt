@@ -65,7 +65,7 @@ listed-set {i} {a} {c} {list} x t = record {
 -- place i is written, and counts if the mask has it
 pub listing-more : {i a c b : ℕ} {list : List ℕ} → c < length list → b ≡ coefficient i a → Listed i a list c
     → Listed (i + 1) a (set list c i) (c + b)
-listing-more {i} {a} {c} {b} {list} room e t = go (ℕ-discrete b 0)
+listing-more {i} {a} {c} {b} {list} inside e t = go (ℕ-discrete b 0)
   where
     go : Dec (b ≡ 0) → Listed (i + 1) a (set list c i) (c + b)
     go (yes z) =
@@ -84,7 +84,7 @@ listing-more {i} {a} {c} {b} {list} room e t = go (ℕ-discrete b 0)
         }
       where
         here : getD (set list c i) c 0 ≡ i
-        here = getD-set-same list c i 0 room
+        here = getD-set-same list c i 0 inside
 
         last : (k : ℕ) → k < suc c → Dec (k ≡ c) → getD (set list c i) k 0 < i + 1
         last k l (yes q) = subst (λ (x : ℕ). x < i + 1) (sym (ap (λ (j : ℕ). getD (set list c i) j 0) q ∙ here)) (omega arith)

@@ -41,26 +41,26 @@ fn fetch(buffer: &mut [u8], size: usize) {
     io::read_full(STDIN_FILENO, &mut buffer[..size]);
 }
 
-fn answer(kind: u8, sheet: &[u8], size: usize, input: &[u8], count: usize, room: usize) -> bool {
+fn answer(kind: u8, sheet: &[u8], size: usize, input: &[u8], count: usize, length: usize) -> bool {
     if sheet.len() < size {
         return false;
     }
     if input.len() < count {
         return false;
     }
-    lines(kind, &sheet[..size], &input[..count], room);
+    lines(kind, &sheet[..size], &input[..count], length);
     true
 }
 
-fn lines(kind: u8, sheet: &[u8], input: &[u8], room: usize) {
+fn lines(kind: u8, sheet: &[u8], input: &[u8], length: usize) {
     if kind == 0 {
         sheets::judge_line(sheet);
         sheets::card_lines(sheet);
         return;
     }
     if kind == 4 {
-        every::words_line(sheet, room);
+        every::words_line(sheet, length);
         return;
     }
-    words::word_line(kind, sheet, input, room);
+    words::word_line(kind, sheet, input, length);
 }

@@ -8,18 +8,18 @@ use code::refusal::refusal_number;
 use document::types::Reply;
 use libc::STDOUT_FILENO;
 
-pub fn word_line(kind: u8, sheet: &[u8], input: &[u8], room: usize) {
+pub fn word_line(kind: u8, sheet: &[u8], input: &[u8], length: usize) {
     let mut out = [170u8; 20];
-    lent_line(kind, sheet, input, &mut out, room);
+    lent_line(kind, sheet, input, &mut out, length);
 }
 
-fn lent_line(kind: u8, sheet: &[u8], input: &[u8], out: &mut [u8], room: usize) {
-    if out.len() < room {
+fn lent_line(kind: u8, sheet: &[u8], input: &[u8], out: &mut [u8], length: usize) {
+    if out.len() < length {
         return;
     }
-    let reply = reply_to(kind, sheet, input, &mut out[..room]);
+    let reply = reply_to(kind, sheet, input, &mut out[..length]);
     reply_label(kind, reply);
-    hex(out, room);
+    hex(out, length);
     io::write_all(STDOUT_FILENO, b"\n");
 }
 

@@ -6,7 +6,7 @@ use lib.ListN.{length, length-set}
 use Rattle.field.specs.Field.{Degree}
 use Rattle.field.proofs.Primitive.{Degree-bounds}
 use Rattle.field.specs.Tables.{Powers}
-use Rattle.field.proofs.Filling.{powers-round, filled, room-kept}
+use Rattle.field.proofs.Filling.{powers-round, filled, fillable-kept}
 use Rattle.field.proofs.tables.fill.Statement.{statement}
 use Rattle.field.proofs.tables.fill.Tie as tie
 use Rattle.field.proofs.tables.fill.Reads as reads
@@ -92,7 +92,7 @@ same-length-2 c = simp length-set (c .before .before .before .before .before .be
 
 returns : tie.Need-returns Inv-loop μ-loop
 returns c = let v = c .before .loop .inv in
-    filled (room-kept (v .4 ∙ c .before .before .before .before .before .before .once .kept .1 .1 .0) (c .before .before .before .before .before .before .once .kept .1 .1 .1 .0) (c .before .before .before .before .before .before .before .before .before .before .before .before .pre)) (v .1) (omega (arith, v .1, v .2)) (v .7) (c .before .before .before .before .before .before .once .ensures .1)
+    filled (fillable-kept (v .4 ∙ c .before .before .before .before .before .before .once .kept .1 .1 .0) (c .before .before .before .before .before .before .once .kept .1 .1 .1 .0) (c .before .before .before .before .before .before .before .before .before .before .before .before .pre)) (v .1) (omega (arith, v .1, v .2)) (v .7) (c .before .before .before .before .before .before .once .ensures .1)
 
 pub fill-spec : {M : Type 1} → statement M
 fill-spec =

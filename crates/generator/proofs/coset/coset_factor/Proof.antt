@@ -28,7 +28,7 @@ loop-holds : tie.Need-loop-holds Inv-loop μ-loop
 loop-holds c =
     let w = c .before .before .before .before .before .before .before .pre in (
       w .0,
-      omega (arith, w .1 .room, c .before .before .before .before .times-root .kept .0),
+      omega (arith, w .1 .fits, c .before .before .before .before .times-root .kept .0),
       refl,
       stepping-first (w .0) (w .1)
           (c .before .before .before .before .times-root .ensures) (c .before .twice .ensures) (c .multiply .ensures),

@@ -15,7 +15,7 @@ abbrev μ-loop : tie.MeasureT-loop
 μ-loop factor₀ m s a j₀ factor j = j
 
 add-j : tie.Need-add-j Inv-loop μ-loop
-add-j c = let r = c .before .pre .0 .room in omega arith
+add-j c = let r = c .before .pre .0 .fits in omega arith
 
 loop-holds : tie.Need-loop-holds Inv-loop μ-loop
 loop-holds c = let r = c .before .pre in (r .0, r .1, refl, omega arith, timing-start _ (r .0))
@@ -24,26 +24,26 @@ sub-below : tie.Need-sub-below Inv-loop μ-loop
 sub-below c = omega arith
 
 mul-below : tie.Need-mul-below Inv-loop μ-loop
-mul-below c = let v = c .before .loop .inv in omega (arith, v .0 .room, v .2, v .3)
+mul-below c = let v = c .before .loop .inv in omega (arith, v .0 .fits, v .2, v .3)
 
 slice-read-below : tie.Need-slice-read-below Inv-loop μ-loop
-slice-read-below c = let v = c .before .before .loop .inv in omega (arith, v .0 .room, v .2, v .3)
+slice-read-below c = let v = c .before .before .loop .inv in omega (arith, v .0 .fits, v .2, v .3)
 
 mul-multiply : tie.Need-mul-multiply Inv-loop μ-loop
-mul-multiply c = let v = c .before .before .loop .inv in omega (arith, v .0 .room, v .2, v .3)
+mul-multiply c = let v = c .before .before .loop .inv in omega (arith, v .0 .fits, v .2, v .3)
 
 slice-read-multiply : tie.Need-slice-read-multiply Inv-loop μ-loop
-slice-read-multiply c = let v = c .before .before .before .loop .inv in omega (arith, v .0 .room, v .2, v .3)
+slice-read-multiply c = let v = c .before .before .before .loop .inv in omega (arith, v .0 .fits, v .2, v .3)
 
 multiply-requires : tie.Need-multiply-requires Inv-loop μ-loop
 multiply-requires c κs =
     let v = c .before .before .before .loop .inv in (v .0 .degree, v .1, timing-small (v .0) (v .4) _ (omega arith))
 
 mul-factor : tie.Need-mul-factor Inv-loop μ-loop
-mul-factor c = let v = c .before .before .before .before .loop .inv in omega (arith, v .0 .room, v .2, v .3)
+mul-factor c = let v = c .before .before .before .before .loop .inv in omega (arith, v .0 .fits, v .2, v .3)
 
 slice-write-factor : tie.Need-slice-write-factor Inv-loop μ-loop
-slice-write-factor c = let v = c .before .before .before .before .loop .inv in omega (arith, v .0 .room, v .2, v .3)
+slice-write-factor c = let v = c .before .before .before .before .loop .inv in omega (arith, v .0 .fits, v .2, v .3)
 
 sub-j : tie.Need-sub-j Inv-loop μ-loop
 sub-j c = omega arith
@@ -59,17 +59,17 @@ loop-again c =
       simp length-set (v .2),
       omega (arith, v .3),
       timing-more (v .4) (omega arith)
-          (omega (arith, v .0 .room, v .2, v .3)) (c .multiply .ensures) refl,
+          (omega (arith, v .0 .fits, v .2, v .3)) (c .multiply .ensures) refl,
     )
 
 slice-read-multiply-2 : tie.Need-slice-read-multiply-2 Inv-loop μ-loop
-slice-read-multiply-2 c = let v = c .before .before .loop .inv in omega (arith, v .0 .room, v .2)
+slice-read-multiply-2 c = let v = c .before .before .loop .inv in omega (arith, v .0 .fits, v .2)
 
 multiply-requires-2 : tie.Need-multiply-requires-2 Inv-loop μ-loop
 multiply-requires-2 c κs = let v = c .before .before .loop .inv in (v .0 .degree, v .1, timing-small (v .0) (v .4) 0 (omega arith))
 
 slice-write-factor-2 : tie.Need-slice-write-factor-2 Inv-loop μ-loop
-slice-write-factor-2 c = let v = c .before .before .before .loop .inv in omega (arith, v .0 .room, v .2)
+slice-write-factor-2 c = let v = c .before .before .before .loop .inv in omega (arith, v .0 .fits, v .2)
 
 same-length : tie.Need-same-length Inv-loop μ-loop
 same-length c = let v = c .before .before .before .loop .inv in simp length-set (v .2)
@@ -77,7 +77,7 @@ same-length c = let v = c .before .before .before .loop .inv in simp length-set 
 returns : tie.Need-returns Inv-loop μ-loop
 returns c =
     let v = c .before .before .before .loop .inv in
-    timing-end (v .4) (omega arith) (omega (arith, v .0 .room, v .2)) (c .multiply2 .ensures)
+    timing-end (v .4) (omega arith) (omega (arith, v .0 .fits, v .2)) (c .multiply2 .ensures)
 
 pub times-root-spec : {M : Type 1} → statement M
 times-root-spec =

@@ -8,7 +8,7 @@ one-requires : tie.Need-one-requires
 one-requires c κs = search needs
 
 coset-factor-requires : tie.Need-coset-factor-requires
-coset-factor-requires c κs = (c .before .before .before .before .before .before .pre .0, record { room = omega (arith, c .before .before .before .before .before .before .pre .1, c .before .before .before .before .before .before .pre .0 .small, c .before .before .before .one .kept .0); one = c .before .before .before .one .ensures .one })
+coset-factor-requires c κs = (c .before .before .before .before .before .before .pre .0, record { fits = omega (arith, c .before .before .before .before .before .before .pre .1, c .before .before .before .before .before .before .pre .0 .small, c .before .before .before .one .kept .0); one = c .before .before .before .one .ensures .one })
 
 same-length : tie.Need-same-length
 same-length c = search needs

@@ -3,7 +3,7 @@ use borrow.Author.Needs.{needs}
 use native.Mathlib.Omega.{arith}
 use mathlib.Core.Path.{refl}
 use Prim.Native.Nat.{_-_}
-use Rattle.syndrome.proofs.Computing.{columnable, Values, values-start, values-summable, values-by, values-room, values-more, values-end}
+use Rattle.syndrome.proofs.Computing.{columnable, Values, values-start, values-summable, values-by, values-in, values-more, values-end}
 use Rattle.syndrome.proofs.values.evaluate.Statement.{statement}
 use Rattle.syndrome.proofs.values.evaluate.Tie as tie
 
@@ -53,10 +53,10 @@ quiet-requires : tie.Need-quiet-requires Inv-loop μ-loop
 quiet-requires c κs = search needs
 
 mul-values : tie.Need-mul-values Inv-loop μ-loop
-mul-values c = omega (arith, values-room (c .before .before .before .before .loop-test .taken) (c .before .before .before .before .before .loop .inv) .0)
+mul-values c = omega (arith, values-in (c .before .before .before .before .loop-test .taken) (c .before .before .before .before .before .loop .inv) .0)
 
 slice-write-values : tie.Need-slice-write-values Inv-loop μ-loop
-slice-write-values c = values-room (c .before .before .before .before .loop-test .taken) (c .before .before .before .before .before .loop .inv) .1
+slice-write-values c = values-in (c .before .before .before .before .loop-test .taken) (c .before .before .before .before .before .loop .inv) .1
 
 loop-less : tie.Need-loop-less Inv-loop μ-loop
 loop-less c = omega arith

@@ -43,21 +43,21 @@ space {L = L} {k} h l m =
     let y : L < length (zeros k) = omega (arith, z) in
     let x : length (zeros k) ≤ length (zeros k) = omega arith in
     record {
-      col-long = omega arith;
-      list-long = l;
-      val-long = omega arith;
-      a-long = y;
-      b-long = y;
-      v-long = y;
-      x-long = y;
-      lg-long = (x, x);
-      st-long = (x, x);
-      lo-long = (x, x);
-      hi-long = (x, x);
-      a-zero = cleared k;
-      b-zero = cleared k;
-      v-zero = cleared k;
-      x-zero = cleared k;
+      columns-long = omega arith;
+      places-long = l;
+      values-long = omega arith;
+      upper-long = y;
+      lower-long = y;
+      lower-cofactor-long = y;
+      upper-cofactor-long = y;
+      exponents-long = (x, x);
+      steps-long = (x, x);
+      low-long = (x, x);
+      high-long = (x, x);
+      upper-zero = cleared k;
+      lower-zero = cleared k;
+      lower-cofactor-zero = cleared k;
+      upper-cofactor-zero = cleared k;
     }
 
 pub lodged : {n s t : ℕ} {c : CodeCertificate} {reps e g list w : List ℕ} (k : ℕ) → Given n s t c reps → Held n w → n ≤ length list

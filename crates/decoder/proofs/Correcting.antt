@@ -121,27 +121,27 @@ module _ {n s t : ℕ} {c : CodeCertificate} {reps e g col val a b v x lg st lo 
     tables = p .tables;
     bits = λ i. subst (λ (y : ℕ). y < 2) (sym (p .held .holds .at i)) (digit-lt (p .held .word / 2 ^ i));
     w-long = p .held .long;
-    col-long = p .space .col-long;
-    val-long = p .space .val-long;
+    col-long = p .space .columns-long;
+    val-long = p .space .values-long;
   }
 
   pub extendable : {val′ : List ℕ} → length val′ ≡ length val → Computed n s w reps val′ → Extendable n s reps e g val′
   extendable l y = record {
     setting = setting;
     tables = p .tables;
-    long = omega (arith, l, p .space .val-long);
+    long = omega (arith, l, p .space .values-long);
     word = p .held .word;
     held = y .at (p .held .word) (p .held .holds) (p .held .small);
   }
 
   pub walkable : {val′ : List ℕ} → length val′ ≡ length val → Walkable n c val′
-  walkable e = walkable-ranged (range (p .given)) (p .given .most) (omega (arith, e, p .space .val-long))
+  walkable e = walkable-ranged (range (p .given)) (p .given .most) (omega (arith, e, p .space .values-long))
 
   pub f-small : c .f < 65536
   f-small = omega (arith, f-fits (walkable {val′ = val} refl))
 
   pub b-enough : c .terms ≤ length b
-  b-enough = omega (arith, p .space .b-long)
+  b-enough = omega (arith, p .space .lower-long)
 
   -- where they are at most t, the places are listed
   pub comparable : {m : ℕ} {lam list′ val′ : List ℕ} → Places.Located n s (c .z) (c .f) t lam list′ m → length list′ ≡ length list
@@ -150,10 +150,10 @@ module _ {n s t : ℕ} {c : CodeCertificate} {reps e g col val a b v x lg st lo 
       let q = y .found .all h .1 in
       record {
         setting = setting;
-        long = omega (arith, q .le, ll, p .space .list-long);
+        long = omega (arith, q .le, ll, p .space .places-long);
         few = q .le;
         places = q .below;
-        val-long = omega (arith, lv, p .space .val-long);
+        val-long = omega (arith, lv, p .space .values-long);
       }
 
   pub solvable : {u : ℕ} {val′ b′ : List ℕ} → u ≡ degreeOf (c .f) → Known n s w reps val′ → SyndromesOf n (certificateAs c) val′ b b′
@@ -162,18 +162,18 @@ module _ {n s t : ℕ} {c : CodeCertificate} {reps e g col val a b v x lg st lo 
     tables = p .tables;
     b-small = subst (λ (d : ℕ). Small d b′) (sym (p .given .s-is))
         (syndromes-small (p .given .length-of) reps (certificateAs c) (p .given .sound)
-        (subst (λ (d : ℕ). Known n d w reps val′) (p .given .s-is) y) z (p .space .b-zero) (p .held .holds) (p .held .small));
+        (subst (λ (d : ℕ). Known n d w reps val′) (p .given .s-is) y) z (p .space .lower-zero) (p .held .holds) (p .held .small));
     b-short =
         syndromes-short (p .given .length-of) reps (certificateAs c) (p .given .sound)
-        (subst (λ (d : ℕ). Known n d w reps val′) (p .given .s-is) y) z (p .space .b-zero) (p .held .holds) (p .held .small);
-    a-zero = p .space .a-zero;
-    v-zero = p .space .v-zero;
-    w-zero = p .space .x-zero;
+        (subst (λ (d : ℕ). Known n d w reps val′) (p .given .s-is) y) z (p .space .lower-zero) (p .held .holds) (p .held .small);
+    a-zero = p .space .upper-zero;
+    v-zero = p .space .lower-cofactor-zero;
+    w-zero = p .space .upper-cofactor-zero;
     stop-most = omega arith;
-    a-long = p .space .a-long;
-    b-long = omega (arith, p .space .b-long, lb);
-    v-long = p .space .v-long;
-    w-long = p .space .x-long;
+    a-long = p .space .upper-long;
+    b-long = omega (arith, p .space .lower-long, lb);
+    v-long = p .space .lower-cofactor-long;
+    w-long = p .space .upper-cofactor-long;
   }
 
   pub search : {u τ len : ℕ} {S v′ x′ lam : List ℕ} {second : Bool} → u ≡ degreeOf (c .f) → Outcome s (c .terms) τ S second len v′ x′
@@ -192,12 +192,12 @@ module _ {n s t : ℕ} {c : CodeCertificate} {reps e g col val a b v x lg st lo 
           short = y .short;
           pos = y .pos;
           lam-long = y .long;
-          lg-long = long (p .space .lg-long);
-          st-long = long (p .space .st-long);
-          lo-long = long (p .space .lo-long);
-          hi-long = long (p .space .hi-long);
+          lg-long = long (p .space .exponents-long);
+          st-long = long (p .space .steps-long);
+          lo-long = long (p .space .low-long);
+          hi-long = long (p .space .high-long);
         };
-        list-long = p .space .list-long;
+        list-long = p .space .places-long;
         few = omega (arith, p .given .most);
       }
     where

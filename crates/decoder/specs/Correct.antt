@@ -55,22 +55,22 @@ pub record Verified (n s t m : ℕ) (list reps val : List ℕ) (answer : Answer)
   pub no : m ≤ t → right ≡ false → answer ≡ refused 13
 
 -- ---- the whole
-pub record Workspace (n L : ℕ) (col val a b v x lg st lo hi list : List ℕ) : Type 0 where
-  pub col-long : (n + 7) / 8 * 2 ≤ length col
-  pub list-long : n ≤ length list
-  pub val-long : n ≤ length val
-  pub a-long : L < length a
-  pub b-long : L < length b
-  pub v-long : L < length v
-  pub x-long : L < length x
-  pub lg-long : (length v ≤ length lg) × (length x ≤ length lg)
-  pub st-long : (length v ≤ length st) × (length x ≤ length st)
-  pub lo-long : (length v ≤ length lo) × (length x ≤ length lo)
-  pub hi-long : (length v ≤ length hi) × (length x ≤ length hi)
-  pub a-zero : Short 0 a
-  pub b-zero : Short 0 b
-  pub v-zero : Short 0 v
-  pub x-zero : Short 0 x
+pub record Workspace (n L : ℕ) (columns values upper lower lower-cofactor upper-cofactor exponents steps low high places : List ℕ) : Type 0 where
+  pub columns-long : (n + 7) / 8 * 2 ≤ length columns
+  pub places-long : n ≤ length places
+  pub values-long : n ≤ length values
+  pub upper-long : L < length upper
+  pub lower-long : L < length lower
+  pub lower-cofactor-long : L < length lower-cofactor
+  pub upper-cofactor-long : L < length upper-cofactor
+  pub exponents-long : (length lower-cofactor ≤ length exponents) × (length upper-cofactor ≤ length exponents)
+  pub steps-long : (length lower-cofactor ≤ length steps) × (length upper-cofactor ≤ length steps)
+  pub low-long : (length lower-cofactor ≤ length low) × (length upper-cofactor ≤ length low)
+  pub high-long : (length lower-cofactor ≤ length high) × (length upper-cofactor ≤ length high)
+  pub upper-zero : Short 0 upper
+  pub lower-zero : Short 0 lower
+  pub lower-cofactor-zero : Short 0 lower-cofactor
+  pub upper-cofactor-zero : Short 0 upper-cofactor
 
 -- a word of n places, and 0 up to the next whole byte
 pub record Held (n : ℕ) (w : List ℕ) : Type 0 where
@@ -79,11 +79,11 @@ pub record Held (n : ℕ) (w : List ℕ) : Type 0 where
   pub holds : Holds word w
   pub long : (n + 7) / 8 * 8 ≤ length w
 
-pub record Correctable (n s t : ℕ) (c : CodeCertificate) (reps e g col val a b v x lg st lo hi list w : List ℕ) : Type 0 where
+pub record Correctable (n s t : ℕ) (c : CodeCertificate) (reps powers logs columns values upper lower lower-cofactor upper-cofactor exponents steps low high places bits : List ℕ) : Type 0 where
   pub given : Given n s t c reps
-  pub tables : Tables s e g
-  pub space : Workspace n (c .terms) col val a b v x lg st lo hi list
-  pub held : Held n w
+  pub tables : Tables s powers logs
+  pub space : Workspace n (c .terms) columns values upper lower lower-cofactor upper-cofactor exponents steps low high places
+  pub held : Held n bits
 
 -- of whatever word r it was: m places are listed, m at most t, and with them changed it is a codeword, m places from it; or none
 -- is so near

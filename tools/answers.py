@@ -25,9 +25,9 @@ def all_calls():
 def main():
     if sys.argv[1:] not in (['calls'], ['answers']):
         sys.exit('usage: tools/answers.py calls|answers')
-    for sheet, kind, given, room, told in all_calls():
+    for sheet, kind, given, space, told in all_calls():
         if sys.argv[1] == 'calls':
-            sys.stdout.buffer.write(bytes([kind, len(sheet), len(given), room] + sheet) + given)
+            sys.stdout.buffer.write(bytes([kind, len(sheet), len(given), space] + sheet) + given)
         else:
             print(told)
 

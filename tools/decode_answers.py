@@ -288,11 +288,11 @@ def length_calls(of_sheet):
     # refusals 11 and 12, in their order
     n, b = of_sheet[2], (of_sheet[2] + 7) // 8
     for given in sorted({0, b - 1, b + 1, 20} - {b}):
-        for room in (0, b):
-            yield 3, bytes(given), room, 'decode refused 11 ' + 'aa' * room
-    for room in sorted({0, b - 1, b + 1, 20} - {b}):
-        yield 3, bytes(b), room, 'decode refused 11 ' + 'aa' * room
-        yield 3, bytes(b - 1) + b'\xff', room, 'decode refused 11 ' + 'aa' * room
+        for space in (0, b):
+            yield 3, bytes(given), space, 'decode refused 11 ' + 'aa' * space
+    for space in sorted({0, b - 1, b + 1, 20} - {b}):
+        yield 3, bytes(b), space, 'decode refused 11 ' + 'aa' * space
+        yield 3, bytes(b - 1) + b'\xff', space, 'decode refused 11 ' + 'aa' * space
     for place in range(n, 8 * b):
         for rest in (0, 1, 2 ** n - 1, 3 << n // 2):
             yield 3, in_bytes(rest | 1 << place, n), b, 'decode refused 12 ' + 'aa' * b
@@ -300,8 +300,8 @@ def length_calls(of_sheet):
 
 def refused_calls(number):
     # a refused sheet, with words and buffers that have the right length, and others
-    for given, room in ((b'\x01', 1), (bytes(16), 16), (b'\xff\xff', 2), (b'', 0)):
-        yield 3, given, room, 'decode refused %s ' % number + 'aa' * room
+    for given, space in ((b'\x01', 1), (bytes(16), 16), (b'\xff\xff', 2), (b'', 0)):
+        yield 3, given, space, 'decode refused %s ' % number + 'aa' * space
 
 
 def whole_call(of_sheet):

@@ -9,7 +9,7 @@
 #include <stdlib.h>
 #include <string.h>
 
-#define ROOM ((size_t)1 << 20)
+#define SPACE ((size_t)1 << 20)
 
 /* The entry called with the stack pointer at `top`. Its six arguments are all in registers; card takes the first four. */
 static int32_t call_at(uint8_t *top, void *f, const uint8_t *sheet, size_t sheet_len, const uint8_t *in, size_t in_len,
@@ -47,15 +47,15 @@ int main(int argc, char **argv) {
     static uint8_t text[DUNEFORK_CARD_BYTES];
     const uint8_t *second = which == 3 ? text : in;
     if (which == 3) in_len = sizeof text;
-    uint8_t *room = aligned_alloc(4096, ROOM);
+    uint8_t *space = aligned_alloc(4096, SPACE);
     int32_t answer = 0;
     /* twice, since a byte that was written may have the paint's own value */
     for (int paint = 0x55; paint <= 0xaa; paint += 0x55) {
-        memset(room, paint, ROOM);
-        answer = call_at(room + ROOM, entries[which], sheet, sheet_len, second, in_len, out, (size_t)atoi(argv[4]));
+        memset(space, paint, SPACE);
+        answer = call_at(space + SPACE, entries[which], sheet, sheet_len, second, in_len, out, (size_t)atoi(argv[4]));
         size_t low = 0;
-        while (low < ROOM && room[low] == paint) low++;
-        if (ROOM - low > deepest) deepest = ROOM - low;
+        while (low < SPACE && space[low] == paint) low++;
+        if (SPACE - low > deepest) deepest = SPACE - low;
     }
     printf("%d %zu\n", (int)answer, deepest);
     return 0;

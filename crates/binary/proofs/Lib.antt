@@ -1,5 +1,5 @@
--- Laws, in reading order: degrees, divisors of numbers and of masks, the period, coefficients of products, power series.
--- Polynomials over two elements.
+-- Laws, in reading order: degrees, divisors of numbers and of masks, the period, coefficients, power
+-- series; then polynomials in slices.
 pub mod Degree
 pub mod Coprime
 pub mod CommonFactor

@@ -1,5 +1,4 @@
--- Why each rule of a certificate is what the code finds.
--- Distance, and what decoding is to find, in the words of the definitions.
+-- Laws, in reading order: each rule as the code finds it; then distance, and what decoding is to find, in the words of the definitions.
 pub mod Ranges
 pub mod Terms
 pub mod Checks

@@ -30,7 +30,7 @@ use Rattle.cyclic.proofs.NumberGcd.{NoFactor}
 use Rattle.cyclic.proofs.MaskGcd.{NoCommon, divisor-le}
 use Rattle.cyclic.proofs.Ratio.{next, digits, digits-z, digits-s}
 use Rattle.cyclic.proofs.Apart.{apart}
-use Rattle.cyclic.proofs.Radius.{distanceOf, radiusOf}
+use Rattle.cyclic.proofs.Radius.{distanceOf, radiusFor}
 use Rattle.cyclic.proofs.Syndromes as Syndromes
 use Rattle.cyclic.proofs.Certificate.{RationalCertificate, syndromes}
 use Rattle.document.specs.Sheet.{codeLength, representatives, Certificate as Written, certificate}
@@ -183,5 +183,5 @@ module _ {n : ℕ} (l : Length n) (reps : List ℕ) (c : Written) (s : Sound n r
   distance-is = refl
 
   pub radius-is : Syndromes.radius (syndromes theory) ≡ radius c
-  unfolding theory radiusOf radius
+  unfolding theory radiusFor radius
   radius-is = ap (λ (d : ℕ). (d - 1) / 2) distance-is

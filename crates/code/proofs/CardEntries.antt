@@ -25,7 +25,7 @@ use Rattle.binary.specs.Bits.{Holds}
 use Rattle.codeword.specs.Codewords.{Usable, Recorded, Generated}
 use Rattle.listing.specs.Accepted.{Listable}
 use Rattle.listing.proofs.Cards.{listable-of}
-use Rattle.code.specs.Record.{Markable}
+use Rattle.code.specs.Listing.{Markable}
 use Rattle.judging.proofs.Judging.{no-marks, marks-at}
 use Rattle.code.proofs.Accepted.{judged-record, conditions}
 

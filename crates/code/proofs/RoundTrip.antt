@@ -1,28 +1,30 @@
 -- Demand 2 in bytes, in the words of the definitions alone: for every accepted sheet.
 --
---   Message, Word        bytes of the right number, with no spare bit
+--   Placed               places in bytes, as many as they take, with no spare bit; Message, Word: those of the sheet
 --   codewordOf, messageIn      the codeword of a message, and the message in a word, in bytes
 --   encodes              every message is encoded, into codewordOf
 --   codeword-word, codeword-is      which is a word, and a codeword
 --   reads                a codeword is read into messageIn
---   codeword-place       message bit i stands in place n - k + i
+--   codeword-place       message bit i stands in place n - k + i,
+--   codeword-low         and the places below hold the remainder
 --   codeword-multiple, codeword-set, codeword-representatives      what a codeword is, three times
 --   read-back            reading it gives the message back
 --   codewords-distinct   distinct messages have distinct codewords
 --   message-message, encode-back      a codeword is what encoding makes of the message that reading gives
 --   none-refused         a word that is no codeword is refused with 14,
---   refused-none         and only such a word is, whatever sheet, word and buffer
+--   refused-none         and only such a word is, whatever sheet, word and buffer: NotACodeword says what it is
+--   fourteen-iff         both in one
 use mathlib.Core.Path.{_≡_, refl, sym, ap, _∙_}
 use mathlib.Core.Logic.{_↔_}
 use mathlib.Core.Bool.{Bool, true, false, not}
 use mathlib.Core.List.{List, [], _∷_, _++_}
-use Prim.Native.Nat.{ℕ, zero, suc, _+_, _-_, _%_, _^_, _<_}
+use Prim.Native.Nat.{ℕ, zero, suc, _+_, _-_, _*_, _%_, _^_, _<_}
 use native.Mathlib.Omega.{arith}
 use lib.ListN.{length, getD}
 use lib.Pow.{shr-shr}
 use borrow.Author.Tests.{eqb-true}
 use Rattle.algebra.proofs.Lists.{All}
-use Rattle.field.specs.Mask.{coefficient, clmul}
+use Rattle.field.specs.Mask.{coefficient, clmul, remainder}
 use Rattle.field.specs.Field.{fieldPower, orderOfTwo, α}
 use Rattle.cyclic.proofs.Places.{coefficient-above, coefficient-zero}
 use Rattle.document.specs.Answer.{returned, refused, Conditions, firstOf}
@@ -36,7 +38,7 @@ use Rattle.document.proofs.Sane.{settle-number}
 use Rattle.document.proofs.Theory.{Length}
 use Rattle.document.proofs.Chain.{first-quiet, first-keep}
 use Rattle.document.proofs.Acceptance.{accepted-iff, judge-number, judge-le}
-use Rattle.document.proofs.Demand2.{multiple-iff, defining-iff, representatives-iff, encode-is-codeword, encode-systematic, encode-lt, message-lt, codeword-is-encoding}
+use Rattle.document.proofs.Demand2.{multiple-iff, defining-iff, representatives-iff, encode-is-codeword, encode-systematic, encode-checks, encode-lt, message-lt, codeword-is-encoding}
 use Rattle.sheet.proofs.Headed.{headed-length}
 use Rattle.codeword.proofs.Places.{Weights, word-weights, message-weights, mask-lt, mask-coefficient, for-le, spare-clear, bytes-length, bytes-place, bytes-lt, mask-of-bytes, bytes-of-mask}
 use Rattle.codeword.specs.Codewords.{Usable}
@@ -56,6 +58,9 @@ placed-bytes {w} W n c h = record {
   small = bytes-lt W n c;
   clear = spare-clear w n (bytesOf w n c) (λ i a b. bytes-place W n c i b ∙ coefficient-above h i a);
 }
+
+no-places : Holds 0 []
+no-places = record { at = λ i. sym (coefficient-zero i) }
 
 module _ (sheet : List ℕ) where
   abbrev n : ℕ
@@ -98,6 +103,10 @@ module _ (sheet : List ℕ) where
     unfolding dimensionOf generatorOf
     systematic m = encode-systematic l (representatives sheet) m
 
+    low : (m : ℕ) → encodeMask (n - k) g m % 2 ^ (n - k) ≡ remainder (n - k) g (m * 2 ^ (n - k))
+    unfolding dimensionOf generatorOf
+    low m = encode-checks l (representatives sheet) m
+
     mask-lt-n : (m : ℕ) → m < 2 ^ k → encodeMask (n - k) g m < 2 ^ n
     unfolding dimensionOf generatorOf
     mask-lt-n m h = encode-lt l (representatives sheet) m h
@@ -138,6 +147,12 @@ module _ (sheet : List ℕ) where
         ∙ sym (ap (λ (x : ℕ). x % 2) (shr-shr (encodedWord sheet message) (n - k) i))
         ∙ ap (coefficient i) (systematic (maskOf messageWeight k message)) ∙ mask-coefficient messageWeight k message i h
 
+    -- and the places below n - k hold the remainder of x^(n-k) m(x) by the generator
+    pub codeword-low : (message : List ℕ)
+        → wordOf sheet (codewordOf message) % 2 ^ (n - k) ≡ remainder (n - k) g (maskOf messageWeight k message * 2 ^ (n - k))
+    unfolding encodedWord
+    codeword-low message = ap (λ (x : ℕ). x % 2 ^ (n - k)) (word-is message) ∙ low (maskOf messageWeight k message)
+
     -- ---- what a codeword is
     pub codeword-multiple : (c : ℕ) → (isCodeword (n - k) g c ≡ true) ↔ ((q : ℕ) × (c ≡ clmul g q))
     unfolding dimensionOf generatorOf
@@ -154,9 +169,6 @@ module _ (sheet : List ℕ) where
     -- ---- reading out
     whole : n - k + k ≡ n
     whole = omega (arith, u .k-le)
-
-    no-places : Holds 0 []
-    no-places = record { at = λ i. sym (coefficient-zero i) }
 
     pub reads : {word : List ℕ} (out : List ℕ) → Word word → length out ≡ bytesFor k → isCodeword (n - k) g (wordOf sheet word) ≡ true
         → (returned (0 ∷ []), messageIn word) ≡ readOf sheet word out
@@ -225,14 +237,14 @@ module _ (sheet : List ℕ) where
   read-number word out = settle-number (firstOf (judgeConditions sheet ++ cond word out)) _ _ _
 
   -- what a word that is refused with 14 is
-  pub record NoCodeword (word out : List ℕ) : Type 0 where
+  pub record NotACodeword (word out : List ℕ) : Type 0 where
     pub accepted-sheet : judgeOf sheet .number ≡ 0
     pub word-long : length word ≡ bytesFor n
     pub out-long : length out ≡ bytesFor k
     pub clear : spare wordWeight n word ≡ false
     pub none : isCodeword (n - k) g (wordOf sheet word) ≡ false
 
-  conditions-last : (word out : List ℕ) → judgeOf sheet .number ≡ 0 → firstOf (cond word out) ≡ 14 → NoCodeword word out
+  conditions-last : (word out : List ℕ) → judgeOf sheet .number ≡ 0 → firstOf (cond word out) ≡ 14 → NotACodeword word out
   unfolding readConditions
   conditions-last word out z e =
       let r = last-one (wrongSize n word) (wrongSize k out) (spare wordWeight n word) _ e in
@@ -244,10 +256,10 @@ module _ (sheet : List ℕ) where
         none = not-true _ (r .3);
       }
 
-  pub refused-none : (word out : List ℕ) → readOf sheet word out .0 .number ≡ 14 → NoCodeword word out
+  pub refused-none : (word out : List ℕ) → readOf sheet word out .0 .number ≡ 14 → NotACodeword word out
   refused-none word out e = go (firstOf (judgeConditions sheet)) refl
     where
-      go : (r : ℕ) → firstOf (judgeConditions sheet) ≡ r → NoCodeword word out
+      go : (r : ℕ) → firstOf (judgeConditions sheet) ≡ r → NotACodeword word out
       go zero q =
           let z : judgeOf sheet .number ≡ 0 = judge-number sheet ∙ q in
           conditions-last word out z (sym (first-quiet (cond word out) (accepted-iff sheet .0 z)) ∙ sym (read-number word out) ∙ e)
@@ -255,3 +267,11 @@ module _ (sheet : List ℕ) where
           let x : firstOf (judgeConditions sheet ++ cond word out) ≡ suc r = first-keep (judgeConditions sheet) (cond word out) r q in
           let y : readOf sheet word out .0 .number ≡ suc r = read-number word out ∙ x in
           absurd (omega (arith, judge-le sheet, q, y, e))
+
+  pub fourteen-iff : (word out : List ℕ) → (readOf sheet word out .0 .number ≡ 14) ↔ NotACodeword word out
+  fourteen-iff word out = (
+    refused-none word out,
+    λ x. sym (ap (λ y. y .0 .number)
+        (read-none (accepted sheet (x .accepted-sheet)) word out (x .word-long) (x .out-long) (x .clear) {w = []} {r = true}
+        (record { is = sym (ap not (x .none)); clear = λ z. no-places }) refl)),
+  )

@@ -7,7 +7,7 @@ ghost use Rattle.document.specs.Card.{cardOf};
 ghost use Rattle.document.specs.Sheet.{representatives};
 ghost use Rattle.sheet.specs.Stage.{Marks};
 ghost use Rattle.codeword.specs.Codewords.{Usable, Recorded};
-ghost use Rattle.code.specs.Record.{Markable};
+ghost use Rattle.code.specs.Listing.{Markable};
 use crate::judge::judge;
 use crate::refusal::refusal_number;
 use codeword::test::sheet_generator;

@@ -1,4 +1,4 @@
-// Answers in the paper's numbers.
+// The numbers of refusals.
 ghost use mathlib.Core.Path.{_≡_};
 ghost use Rattle.document.specs.Answer.{numberOf};
 use document::types::Refusal;

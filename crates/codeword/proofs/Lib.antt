@@ -1,5 +1,4 @@
--- Words and messages by their places.
--- From the parts to the definitions of entries on words.
+-- Laws, in reading order: words and messages by their places; then the parts of encoding and reading out.
 pub mod Places
 pub mod PlaceLoops
 pub mod Spreading

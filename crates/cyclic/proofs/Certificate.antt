@@ -24,7 +24,7 @@ use Rattle.cyclic.proofs.Lift.{lift, lift-z, lift-monic, lift-value}
 use Rattle.cyclic.proofs.MaskGcd.{NoCommon, lift-coprime}
 use Rattle.cyclic.proofs.NumberGcd.{NoFactor}
 use Rattle.cyclic.proofs.Period.{Denominator}
-use Rattle.cyclic.proofs.Ratio.{digits, ratio, ratio-eq}
+use Rattle.cyclic.proofs.Ratio.{digits, ratioSeries, ratio-eq}
 use Rattle.cyclic.proofs.CyclicCode.{Code, power-ne, Vanishes}
 use Rattle.cyclic.proofs.Apart.{FactorsApart, apart-step}
 use Rattle.cyclic.proofs.Errors.{Place, all, all-sum, place-eq}
@@ -72,7 +72,7 @@ module _ {A : Type 0} {R : Ring A} {n : ℕ} {C : Code R n} (T : RationalCertifi
   alternant = record {
     f = lift R f;
     h = lift R h;
-    a = ratio R f h;
+    a = ratioSeries R f h;
     X = λ i. pow R α (i .0 *ℕ z);
     u = T .u;
     v = T .v;
@@ -98,27 +98,27 @@ module _ {A : Type 0} {R : Ring A} {n : ℕ} {C : Code R n} (T : RationalCertifi
       arrange b j z = omega arith
 
   by-value : (e j : ℕ) → e < 2 ^ n
-      → Alternant.syndrome R alternant (weighted R weight e) (all n) j ≡ ratio R f h j * value R (point j) e
+      → Alternant.syndrome R alternant (weighted R weight e) (all n) j ≡ ratioSeries R f h j * value R (point j) e
   unfolding Alternant.syndrome weighted
   by-value e j l =
-      all-sum R n (λ i. lift R e i * pow R α (i *ℕ b) * (ratio R f h j * pow R (pow R α (i *ℕ z)) j))
-      ∙ sum-ext R n _ _ (λ i l. term R (lift R e i) _ _ (ratio R f h j) (pow R (point j) i) (exponent i j))
-      ∙ sum-scale R n (ratio R f h j) _
-      ∙ ap (λ x. ratio R f h j * x) (sym (ev-sum R n (lift R e) (point j)) ∙ sym (lift-value R n e (point j) l))
+      all-sum R n (λ i. lift R e i * pow R α (i *ℕ b) * (ratioSeries R f h j * pow R (pow R α (i *ℕ z)) j))
+      ∙ sum-ext R n _ _ (λ i l. term R (lift R e i) _ _ (ratioSeries R f h j) (pow R (point j) i) (exponent i j))
+      ∙ sum-scale R n (ratioSeries R f h j) _
+      ∙ ap (λ x. ratioSeries R f h j * x) (sym (ev-sum R n (lift R e) (point j)) ∙ sym (lift-value R n e (point j) l))
 
   pub quiet : (c : ℕ) → c < 2 ^ n → Vanishes C c → (j : ℕ) → j < L
       → Alternant.syndrome R alternant (weighted R weight c) (all n) j ≡ 𝟘
   quiet c l w j g = by-value c j l ∙ go (T .terms j g)
     where
-      go : (digits f h j ≡ 0) ⊎ Holds (C .D ((b +ℕ j *ℕ z) % n)) → ratio R f h j * value R (point j) c ≡ 𝟘
+      go : (digits f h j ≡ 0) ⊎ Holds (C .D ((b +ℕ j *ℕ z) % n)) → ratioSeries R f h j * value R (point j) c ≡ 𝟘
       go (inl e) = ap (λ x. coef R x * value R (point j) c) e ∙ rw coef-0 (zero-mul R _)
       go (inr t) =
-          ap (λ x. ratio R f h j * x)
+          ap (λ x. ratioSeries R f h j * x)
           (ap (λ x. value R x c) (pow-mod R α n order _) ∙ w _ (mod-lt _ (order .pos)) t)
           ∙ mul-zero R _
 
   abbrev pub syndromes : Syndromes C
   syndromes = record { alternant = alternant; Y = weight; Y-ne = λ i. power-ne C (i .0 *ℕ b); L = L; quiet = quiet }
 
-  pub syndrome-is : (e j : ℕ) → e < 2 ^ n → syndrome syndromes e j ≡ ratio R f h j * value R (point j) e
+  pub syndrome-is : (e j : ℕ) → e < 2 ^ n → syndrome syndromes e j ≡ ratioSeries R f h j * value R (point j) e
   syndrome-is = by-value

@@ -1,7 +1,7 @@
 -- The numbers of a certificate with L terms and the degrees v < u of numerator and denominator: plain arithmetic.
 --
 --   distanceOf L u v     (L - v) / u + 1, rounded up; 1 where L is at most v
---   radiusOf d           (d - 1) / 2, rounded down: twice-radius
+--   radiusFor d           (d - 1) / 2, rounded down: twice-radius
 --   stopOf L u v         Euclid stops as soon as a remainder is at most so long: stop-le
 --   distance-pos         the distance is not 0
 --   distance-le          w is at least the distance where L + u ≤ w u + v
@@ -15,14 +15,14 @@ use native.Mathlib.Omega.{arith}
 unfoldable pub distanceOf : ℕ → ℕ → ℕ → ℕ
 distanceOf L u v = (L - v + (u - 1)) / u + 1
 
-unfoldable pub radiusOf : ℕ → ℕ
-radiusOf d = (d - 1) / 2
+unfoldable pub radiusFor : ℕ → ℕ
+radiusFor d = (d - 1) / 2
 
 unfoldable pub stopOf : ℕ → ℕ → ℕ → ℕ
-stopOf L u v = L - radiusOf (distanceOf L u v) * u
+stopOf L u v = L - radiusFor (distanceOf L u v) * u
 
-pub twice-radius : (d : ℕ) → 0 < d → radiusOf d + radiusOf d < d
-unfolding radiusOf
+pub twice-radius : (d : ℕ) → 0 < d → radiusFor d + radiusFor d < d
+unfolding radiusFor
 twice-radius d h = omega arith
 
 pub distance-pos : (L u v : ℕ) → 0 < distanceOf L u v
@@ -44,11 +44,11 @@ module _ (L u v : ℕ) (less : v < u) where
       omega arith
 
   t : ℕ
-  t = radiusOf (distanceOf L u v)
+  t = radiusFor (distanceOf L u v)
 
   -- what the distance says of the radius: (2 t - 1) u + v < L
   inside : 0 < t → t * u + t * u + v < L + u
-  unfolding t radiusOf distanceOf
+  unfolding t radiusFor distanceOf
   inside h =
       let N : ℕ = L - v + (u - 1) in
       let d : N / u * u ≤ N = div-mul-le-self N u in
@@ -57,7 +57,7 @@ module _ (L u v : ℕ) (less : v < u) where
       let e : 1 * u ≤ t * u = mul-le-mul-right u h in
       omega arith
 
-  module _ (w : ℕ) (h : w ≤ radiusOf (distanceOf L u v)) where
+  module _ (w : ℕ) (h : w ≤ radiusFor (distanceOf L u v)) where
     times : w * u ≤ t * u
     unfolding t
     times = mul-le-mul-right u h

@@ -2,7 +2,7 @@
 --
 --   next f h        what is left of h after one step of the division, h = h₀ f + x (next f h)
 --   digits f h j    the j-th coefficient of h / f, 0 or 1: digits-z, digits-s, digits-lt
---   ratio R f h     the series over a ring; ratio-eq: f (h / f) = h
+--   ratioSeries R f h     the series over a ring; ratio-eq: f (h / f) = h
 use mathlib.Core.Path.{_≡_, refl, sym, ap, _∙_, fun-ext}
 use Prim.Native.Nat.{ℕ, zero, suc, _/_, _%_, _<_}
 use Rattle.algebra.proofs.Ring.{Ring, ring, mul-comm, mul-one, one-mul, zero-mul}
@@ -40,10 +40,10 @@ module _ {A : Type 0} (R : Ring A) where
   open Ring (Ser R) using (mul as _⊗_)
 
   infixl 70 _⊗_
-  abbrev pub ratio : ℕ → ℕ → ℕ → A
-  ratio f h j = coef R (digits f h j)
+  abbrev pub ratioSeries : ℕ → ℕ → ℕ → A
+  ratioSeries f h j = coef R (digits f h j)
 
-  ratio-tl : (f h : ℕ) → tl (ratio f h) ≡ ratio f (next f h)
+  ratio-tl : (f h : ℕ) → tl (ratioSeries f h) ≡ ratioSeries f (next f h)
   ratio-tl f h = fun-ext (λ k. ap (coef R) (digits-s f h k))
 
   lift-sel : (x : ℕ) → x < 2 → (f k : ℕ) → lift R (sel x f) k ≡ coef R x * lift R f k
@@ -51,13 +51,13 @@ module _ {A : Type 0} (R : Ring A) where
       digit (λ x. (f k : ℕ) → lift R (sel x f) k ≡ coef R x * lift R f k)
       (λ f k. rw (lift-zero, coef-0, zero-mul) (zero-at R k)) (λ f k. rw coef-1 (sym (one-mul R _)))
 
-  pub ratio-eq : (f h : ℕ) → f % 2 ≡ 1 → lift R f ⊗ ratio f h ≡ lift R h
+  pub ratio-eq : (f h : ℕ) → f % 2 ≡ 1 → lift R f ⊗ ratioSeries f h ≡ lift R h
   ratio-eq f h e = mul-comm (Ser R) _ _ ∙ fun-ext (λ k. go k h)
     where
       end : (x y z : A) → x * y + (z + x * y) ≡ z
       end x y z = simp ring
 
-      go : (k h : ℕ) → (ratio f h ⊗ lift R f) k ≡ lift R h k
+      go : (k h : ℕ) → (ratioSeries f h ⊗ lift R f) k ≡ lift R h k
       go zero h = mul-z R _ _ ∙ rw (lift-z R f, e, coef-1, mul-one, digits-z) (sym (lift-z R h))
       go (suc k) h =
           mul-s R _ _ k

@@ -26,7 +26,7 @@ use Rattle.cyclic.proofs.Places.{coefficient-zero, same-places, count}
 use Rattle.cyclic.proofs.Lift.{lift, lift-add, lift-at, coef-null}
 use Rattle.cyclic.proofs.CyclicCode.{Code, Vanishes}
 use Rattle.cyclic.proofs.Generator.{InCode, codeword, codeword-add}
-use Rattle.cyclic.proofs.Radius.{distanceOf, radiusOf, stopOf, distance-le}
+use Rattle.cyclic.proofs.Radius.{distanceOf, radiusFor, stopOf, distance-le}
 use Rattle.cyclic.proofs.Errors.{Place, all, all-in, all-distinct, sumL-add, support-count}
 
 -- a one in place i has the weight Y i
@@ -58,7 +58,7 @@ module _ {A : Type 0} {R : Ring A} {n : ℕ} {C : Code R n} (S : Syndromes C) wh
   distance = distanceOf L (alternant .u) (alternant .v)
 
   abbrev pub radius : ℕ
-  radius = radiusOf distance
+  radius = radiusFor distance
 
   abbrev pub stop : ℕ
   stop = stopOf L (alternant .u) (alternant .v)

@@ -1,8 +1,8 @@
 -- The parts of correcting a word, joined.
 --
 --   setting, computable, extendable, walkable, comparable, solvable, search      what each part needs of what was there before
---   stop-fits, stop-word, f-small, b-enough      t u is at most L and fits a word, f is below 2^16, and b has L places
---   chosen-v, chosen-x, chosen-solved      the slice that holds the locator
+--   stop-fits, stop-word, f-small, lower-enough      t u is at most L and fits a word, f is below 2^16, and b has L places
+--   chosen-lower, chosen-upper, chosen-solved      the slice that holds the locator
 --   passed-many, passed-yes, passed-no      the exits of the last test
 --   corrected-clean      a codeword stays as it is
 --   exit-many, exit-tested, passed      what they say of the received word
@@ -29,7 +29,7 @@ use Rattle.field.proofs.Xor.{digit-lt, ⊕-zero-r}
 use Rattle.field.proofs.Elements.{GF}
 use Rattle.binary.specs.Factor.{degree as degreeOf}
 use Rattle.cyclic.proofs.Places.{count}
-use Rattle.cyclic.proofs.Radius.{radiusOf, distanceOf, stopOf, fits}
+use Rattle.cyclic.proofs.Radius.{radiusFor, distanceOf, stopOf, fits}
 use Rattle.cyclic.proofs.Certificate.{syndromes}
 use Rattle.cyclic.proofs.Syndromes.{Syndromes as Theory, stop}
 use Rattle.cyclic.proofs.Decode.{Final, PlacesMarked}
@@ -62,15 +62,15 @@ use Rattle.decoder.proofs.Reception.{Known, syndromes-short, syndromes-
 use Rattle.decoder.proofs.Verdict.{far-many, far-other, close-here}
 
 -- ---- numbers
-stop-fits₀ : (L u v : ℕ) → v < u → radiusOf (distanceOf L u v) * u ≤ L
-stop-fits₀ L u v h = omega (arith, fits L u v h (radiusOf (distanceOf L u v)) (omega arith))
+stop-fits₀ : (L u v : ℕ) → v < u → radiusFor (distanceOf L u v) * u ≤ L
+stop-fits₀ L u v h = omega (arith, fits L u v h (radiusFor (distanceOf L u v)) (omega arith))
 
 module _ {n s t : ℕ} {c : CodeCertificate} {reps : List ℕ} (p : Given n s t c reps) where
   range : Ranged n (certificateAs c)
   range = in-range (p .length-of) reps (certificateAs c) (p .sound)
 
   pub stop-fits : {u : ℕ} → u ≡ degreeOf (c .f) → t * u ≤ c .terms
-  unfolding radius distance radiusOf distanceOf
+  unfolding radius distance radiusFor distanceOf
   stop-fits {u} e =
       subst (λ (x : ℕ). x ≤ c .terms) (ap₂ _*_ (sym (p .t-is)) (sym e))
       (stop-fits₀ (c .terms) (degreeOf (c .f)) (degreeOf (c .h)) (range .v))
@@ -82,25 +82,25 @@ module _ {n s t : ℕ} {c : CodeCertificate} {reps : List ℕ} (p : Given n s t 
 differ : true ≡ false → ⊥
 differ e = true-ne-false refl e
 
-module _ {second : Bool} {v x : List ℕ} where
-  pub chosen-v : second ≡ false → Chosen second v x v
-  chosen-v e = record { first = λ _. refl; last = λ q. absurd (differ (sym q ∙ e)) }
+module _ {upper : Bool} {v x : List ℕ} where
+  pub chosen-lower : upper ≡ false → Chosen upper v x v
+  chosen-lower e = record { first = λ _. refl; last = λ q. absurd (differ (sym q ∙ e)) }
 
-  pub chosen-x : second ≡ true → Chosen second v x x
-  chosen-x e = record { first = λ q. absurd (differ (sym e ∙ q)); last = λ _. refl }
+  pub chosen-upper : upper ≡ true → Chosen upper v x x
+  chosen-upper e = record { first = λ q. absurd (differ (sym e ∙ q)); last = λ _. refl }
 
-  module _ {lam : List ℕ} (h : Chosen second v x lam) where
-    chosen-solved : {s l τ len : ℕ} {S : List ℕ} → Outcome s l τ S second len v x → Solved s l τ S lam len
-    chosen-solved {s} {l} {τ} {len} {S} o = go second refl
+  module _ {lam : List ℕ} (h : Chosen upper v x lam) where
+    chosen-solved : {s l τ len : ℕ} {S : List ℕ} → Outcome s l τ S upper len v x → Solved s l τ S lam len
+    chosen-solved {s} {l} {τ} {len} {S} o = go upper refl
       where
-        go : (y : Bool) → second ≡ y → Solved s l τ S lam len
-        go false e = subst (λ (i : List ℕ). Solved s l τ S i len) (sym (h .first e)) (o .in-v e)
-        go true e = subst (λ (i : List ℕ). Solved s l τ S i len) (sym (h .last e)) (o .in-w e)
+        go : (y : Bool) → upper ≡ y → Solved s l τ S lam len
+        go false e = subst (λ (i : List ℕ). Solved s l τ S i len) (sym (h .first e)) (o .in-lower e)
+        go true e = subst (λ (i : List ℕ). Solved s l τ S i len) (sym (h .last e)) (o .in-upper e)
 
     chosen-long : {k : ℕ} → length v ≤ k → length x ≤ k → length lam ≤ k
-    chosen-long {k} lv lx = go second refl
+    chosen-long {k} lv lx = go upper refl
       where
-        go : (y : Bool) → second ≡ y → length lam ≤ k
+        go : (y : Bool) → upper ≡ y → length lam ≤ k
         go false e = subst (λ (i : List ℕ). length i ≤ k) (sym (h .first e)) lv
         go true e = subst (λ (i : List ℕ). length i ≤ k) (sym (h .last e)) lx
 
@@ -140,8 +140,8 @@ module _ {n s t : ℕ} {c : CodeCertificate} {reps e g col val a b v x lg st lo 
   pub f-small : c .f < 65536
   f-small = omega (arith, f-fits (walkable {val′ = val} refl))
 
-  pub b-enough : c .terms ≤ length b
-  b-enough = omega (arith, p .space .lower-long)
+  pub lower-enough : c .terms ≤ length b
+  lower-enough = omega (arith, p .space .lower-long)
 
   -- where they are at most t, the places are listed
   pub comparable : {m : ℕ} {lam list′ val′ : List ℕ} → Places.Located n s (c .z) (c .f) t lam list′ m → length list′ ≡ length list
@@ -176,8 +176,8 @@ module _ {n s t : ℕ} {c : CodeCertificate} {reps e g col val a b v x lg st lo 
     w-long = p .space .upper-cofactor-long;
   }
 
-  pub search : {u τ len : ℕ} {S v′ x′ lam : List ℕ} {second : Bool} → u ≡ degreeOf (c .f) → Outcome s (c .terms) τ S second len v′ x′
-      → Chosen second v′ x′ lam → length v′ ≡ length v → length x′ ≡ length x → Search n s (c .z) (c .f) u len lam e g lg st lo hi list
+  pub search : {u τ len : ℕ} {S v′ x′ lam : List ℕ} {upper : Bool} → u ≡ degreeOf (c .f) → Outcome s (c .terms) τ S upper len v′ x′
+      → Chosen upper v′ x′ lam → length v′ ≡ length v → length x′ ≡ length x → Search n s (c .z) (c .f) u len lam e g lg st lo hi list
   search {len = len} {lam = lam} eu o h lv lx =
       let y = chosen-solved h o in
       record {
@@ -273,7 +273,7 @@ module _ {n t : ℕ} {c : CodeCertificate} {reps : List ℕ} (p : Given n (order
   S = syndromes (theory l reps C (p .sound))
 
   stop-is : τ ≡ stop S
-  unfolding theory stopOf radius distance radiusOf distanceOf
+  unfolding theory stopOf radius distance radiusFor distanceOf
   stop-is = τ-is ∙ ap (λ (y : ℕ). c .terms - y * degreeOf (c .f)) (p .t-is)
 
   final : (z : Final S (series (degree l) b′)) × (z .t ≡ series (degree l) lam)
@@ -282,12 +282,12 @@ module _ {n t : ℕ} {c : CodeCertificate} {reps : List ℕ} (p : Given n (order
       subst (λ (y : ℕ). (z : Done (GF (degree l)) (c .terms) y (series (degree l) b′)) × (z .t ≡ series (degree l) lam)) stop-is
       (solved .key (degree l) .done, solved .key (degree l) .is)
 
-  located : PlacesMarked S (final .0 .t) (marked .places)
+  located : PlacesMarked S (final .0 .t) (marked .mask)
   unfolding theory
   located = record {
     small = marked .small;
     marks = λ i.
-        subst (λ y. Divides (Polys (GF (degree l))) (factor (GF (degree l)) (S .alternant) i) y ↔ (coefficient (i .0) (marked .places) ≡ 1))
+        subst (λ y. Divides (Polys (GF (degree l))) (factor (GF (degree l)) (S .alternant) i) y ↔ (coefficient (i .0) (marked .mask) ≡ 1))
         (sym (final .1)) (marked .means (degree l) (i .0) (i .1));
   }
 
@@ -297,26 +297,26 @@ module _ {n t : ℕ} {c : CodeCertificate} {reps : List ℕ} (p : Given n (order
     none = λ {r} hr lr e x q.
         subst (λ (y : ℕ). y < differences n r x) (sym (p .t-is))
         (far-many l reps C (p .sound) lr (received l reps C (p .sound) values written fresh hr lr) (final .0) located
-        (subst (λ (y : ℕ). y < count n (marked .places)) (p .t-is) (marked .found .many h)) x q);
+        (subst (λ (y : ℕ). y < count n (marked .mask)) (p .t-is) (marked .found .many h)) x q);
   }
 
   exit-tested : {y : Bool} → m ≤ t → Compared n (orderOfTwo n) m list reps val y → (y ≡ true → Corrected n t reps w list (returned (m ∷ []))) × (y ≡ false → Corrected n t reps w list (refused 13))
   exit-tested {y} h k = (here, other)
     where
-      says : {r : ℕ} → Holds r w → r < 2 ^ n → y ≡ isCodeword (n - dimension n reps) (generator n reps) (r ⊕ marked .places)
-      says {r} hr lr = k .is r (marked .places) (marked .found .all h .1) lr (marked .small) (λ i l. values .at r hr lr (getD reps i 0) (rep-in (p .length-of) reps (p .below) i l))
+      says : {r : ℕ} → Holds r w → r < 2 ^ n → y ≡ isCodeword (n - dimension n reps) (generator n reps) (r ⊕ marked .mask)
+      says {r} hr lr = k .is r (marked .mask) (marked .found .all h .1) lr (marked .small) (λ i l. values .at r hr lr (getD reps i 0) (rep-in (p .length-of) reps (p .below) i l))
 
       here : y ≡ true → Corrected n t reps w list (returned (m ∷ []))
       here e = record {
         found = λ {r} hr lr q.
             let k = close-here l reps C (p .sound) lr (received l reps C (p .sound) values written fresh hr lr) (final .0) located
             (sym (says hr lr) ∙ e) in (
-              marked .places,
+              marked .mask,
               k .0,
               sym (value-is q) ∙ marked .found .all h .0 ∙ k .1,
               subst (λ (u : ℕ). u ≤ t) (value-is q) h,
               marked .small,
-              subst (Listed n (marked .places) list) (value-is q) (marked .found .all h .1),
+              subst (Listed n (marked .mask) list) (value-is q) (marked .found .all h .1),
             );
         none = λ hr lr q. absurd (answers-differ (sym q));
       }
@@ -358,8 +358,8 @@ module _ {n s t : ℕ} {c : CodeCertificate} {reps : List ℕ} (p : Given n s t 
           (subst (λ (i : ℕ). Solved i (c .terms) τ b′ lam len) e solved) (subst (λ (i : ℕ). Places.Located n i (c .z) (c .f) t lam list m) e marked)
           (subst (λ (i : ℕ). Verified n i t m list reps val answer) e k)
 
-  pub corrected : {v x lam : List ℕ} {u : ℕ} {second : Bool} → Known n s w reps val → SyndromesOf n (certificateAs c) val b b′ → Short 0 b
-      → u ≡ degreeOf (c .f) → τ ≡ c .terms - t * u → Outcome s (c .terms) τ b′ second len v x → Chosen second v x lam
+  pub corrected : {v x lam : List ℕ} {u : ℕ} {upper : Bool} → Known n s w reps val → SyndromesOf n (certificateAs c) val b b′ → Short 0 b
+      → u ≡ degreeOf (c .f) → τ ≡ c .terms - t * u → Outcome s (c .terms) τ b′ upper len v x → Chosen upper v x lam
       → Places.Located n s (c .z) (c .f) t lam list m → Verified n s t m list reps val answer → Corrected n t reps w list answer
   corrected values written fresh eu eτ o h marked k =
       at-own values written fresh (eτ ∙ ap (λ (i : ℕ). c .terms - t * i) eu) (chosen-solved h o) marked k

@@ -36,7 +36,7 @@ use Rattle.binary.specs.Bits.{Holds}
 use Rattle.syndrome.proofs.Listing.{listed-mask}
 use Rattle.codeword.specs.Place.{Spread}
 use Rattle.codeword.proofs.Places.{word-weights, mask-lt, mask-coefficient, mask-above, spare-none, bytes-same, for-le}
-use Rattle.decoder.specs.Repair.{Places as PlacesOf, Repairable, Repaired}
+use Rattle.decoder.specs.Repair.{PlacesOf, Repairable, Repaired}
 use Rattle.codeword.specs.Codewords.{Usable, Recorded}
 use Rattle.codeword.proofs.Words.{length-of, part-is, generator-is, checks-is, word-holds, zeros}
 use Rattle.decoder.specs.Correct.{Given, Held, Corrected}

@@ -21,7 +21,7 @@ use Rattle.syndrome.specs.Sums.{sumOver}
 use Rattle.syndrome.proofs.Listing.{over-z, over-s}
 use Rattle.codeword.specs.Place.{Put}
 use Rattle.codeword.proofs.Places.{place-lt}
-use Rattle.decoder.specs.Repair.{Places, Repairable, Repaired}
+use Rattle.decoder.specs.Repair.{PlacesOf, Repairable, Repaired}
 
 -- ---- bytes copied
 pub record Copying (i : ℕ) (from to : List ℕ) : Type 0 where
@@ -53,7 +53,7 @@ other : (x : ℕ) → x < 2 → 1 - x ≡ x ⊕ 1
 other = digit (λ x. 1 - x ≡ x ⊕ 1) (sym (⊕-zero-l 1)) (sym (⊕-self 1))
 
 pub places-put : {a i bit : ℕ} {bytes bytes′ : List ℕ} → bit ≡ 1 - place wordWeight bytes i → Put wordWeight i bit bytes bytes′
-    → Places a bytes → Places (a ⊕ 2 ^ i) bytes′
+    → PlacesOf a bytes → PlacesOf (a ⊕ 2 ^ i) bytes′
 places-put {a} {i} {bit} {bytes} {bytes′} e p t = record {
   at = λ j h. go j (omega (arith, p .long)) (ℕ-discrete j i) ∙ sym (bit-⊕ j a (2 ^ i));
 }
@@ -69,13 +69,13 @@ places-put {a} {i} {bit} {bytes} {bytes′} e p t = record {
 -- ---- the places of a list
 pub repaired-start : {word list : List ℕ} → Repaired word list 0 word
 repaired-start {word} {list} = record {
-  at = λ a t. subst (λ (x : ℕ). Places x word) (sym (ap (λ (x : ℕ). a ⊕ x) (over-z (λ j. 2 ^ j) list) ∙ ⊕-zero-r a)) t;
+  at = λ a t. subst (λ (x : ℕ). PlacesOf x word) (sym (ap (λ (x : ℕ). a ⊕ x) (over-z (λ j. 2 ^ j) list) ∙ ⊕-zero-r a)) t;
 }
 
 pub repaired-more : {k i bit : ℕ} {word list out out′ : List ℕ} → i ≡ getD list k 0 → bit ≡ 1 - place wordWeight out i
     → Put wordWeight i bit out out′ → Repaired word list k out → Repaired word list (k + 1) out′
 repaired-more {k} {i} {bit} {word} {list} {out} {out′} q e p r = record {
-  at = λ a t. subst (λ (x : ℕ). Places x out′) (step a) (places-put e p (r .at a t));
+  at = λ a t. subst (λ (x : ℕ). PlacesOf x out′) (step a) (places-put e p (r .at a t));
 }
   where
     step : (a : ℕ) → (a ⊕ sumOver (λ j. 2 ^ j) list k) ⊕ 2 ^ i ≡ a ⊕ sumOver (λ j. 2 ^ j) list (k + 1)

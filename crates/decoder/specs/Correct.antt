@@ -36,9 +36,9 @@ pub record Given (n s t : ℕ) (c : CodeCertificate) (reps : List ℕ) : Type 0 
   pub t-is : t ≡ radius (certificateAs c)
 
 -- ---- one of two slices
-pub record Chosen (second : Bool) (v x lam : List ℕ) : Type 0 where
-  pub first : second ≡ false → lam ≡ v
-  pub last : second ≡ true → lam ≡ x
+pub record Chosen (upper : Bool) (lower-cofactor upper-cofactor locator : List ℕ) : Type 0 where
+  pub first : upper ≡ false → locator ≡ lower-cofactor
+  pub last : upper ≡ true → locator ≡ upper-cofactor
 
 -- ---- the last test
 -- "Decoding returns the number of changed places"; refusal 13, "no codeword within t places"
@@ -46,7 +46,7 @@ abbrev pub correctedAs : Correction → Answer
 correctedAs (Places m) = returned (m ∷ [])
 correctedAs None = refused 13
 
--- m listed places: 13 where they are more than t, or where there is no codeword with them changed
+-- m listed places: 13 where they are more than t, or where the word with them changed is no codeword
 pub record Verified (n s t m : ℕ) (list reps val : List ℕ) (answer : Answer) : Type 0 where
   pub many : t < m → answer ≡ refused 13
   pub right : Bool

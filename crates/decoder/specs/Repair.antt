@@ -1,6 +1,6 @@
 -- A word with listed places changed. No entry's contract cites this file.
 --
---   Places a bytes                   the places of the bytes are those of the mask a
+--   PlacesOf a bytes                   the places of the bytes are those of the mask a
 --   Repairable word list m out       m listed places, all of the word, and bytes for the result
 --   Repaired word list m out         the word's mask with the first m places of the list changed, each as often as it is listed
 use mathlib.Core.Path.{_≡_}
@@ -11,7 +11,7 @@ use Rattle.field.specs.Mask.{_⊕_, coefficient}
 use Rattle.document.specs.Layout.{wordWeight, place}
 use Rattle.syndrome.specs.Sums.{sumOver}
 
-pub record Places (a : ℕ) (bytes : List ℕ) : Type 0 where
+pub record PlacesOf (a : ℕ) (bytes : List ℕ) : Type 0 where
   pub at : (i : ℕ) → i < length bytes * 8 → place wordWeight bytes i ≡ coefficient i a
 
 pub record Repairable (word list : List ℕ) (m : ℕ) (out : List ℕ) : Type 0 where
@@ -20,4 +20,4 @@ pub record Repairable (word list : List ℕ) (m : ℕ) (out : List ℕ) : Type 0
   pub below : (k : ℕ) → k < m → getD list k 0 < length word * 8
 
 pub record Repaired (word list : List ℕ) (m : ℕ) (out : List ℕ) : Type 0 where
-  pub at : (a : ℕ) → Places a word → Places (a ⊕ sumOver (λ j. 2 ^ j) list m) out
+  pub at : (a : ℕ) → PlacesOf a word → PlacesOf (a ⊕ sumOver (λ j. 2 ^ j) list m) out

@@ -1,4 +1,4 @@
-// What correcting a word says: how many places were changed, or that no codeword is within t places.
+// What correcting a word says: how many places are to be changed, or that no codeword is within t places.
 pub enum Correction {
     Places(usize),
     None,

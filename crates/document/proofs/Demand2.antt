@@ -42,7 +42,7 @@ use Rattle.cyclic.proofs.Generator as Generator
 use Rattle.cyclic.proofs.Encode as Encode
 use Rattle.document.specs.Coset.{inSet, dimension}
 use Rattle.document.specs.Generator.{valueBelow, valueAt, generator, isCodeword, encodeMask, messageOf}
-use Rattle.document.proofs.Theory.{Length, degree, T-of, of-T, representatives, codeOf, checks-are, dimension-is}
+use Rattle.document.proofs.Theory.{Length, degree, T-of, of-T, represented, codeOf, checks-are, dimension-is}
 use Rattle.document.proofs.GeneratorIs.{generator-is, generator-degree}
 
 -- ---- values on plain numbers
@@ -133,12 +133,12 @@ module _ {n : ℕ} (l : Length n) (reps : List ℕ) where
     where
       below : (i : ℕ) → inSet n reps i ≡ true → i < n
       below i t =
-          let w = representatives l reps .cover i (T-of t) in
+          let w = represented l reps .cover i (T-of t) in
           subst (λ (x : ℕ). x < n) (w .3) (mod-lt (w .0 * 2 ^ w .1) (omega (arith, l .odd .least)))
 
   pub representatives-iff : (c : ℕ) → (isCodeword m g c ≡ true) ↔ All (λ r. valueAtα r c ≡ 0) reps
   representatives-iff c =
-      let w = vanishes-iff C (representatives l reps) c in (
+      let w = vanishes-iff C (represented l reps) c in (
         λ e. all-map (λ r. value-α r c .1) (w .1 (Generator.codeword C c .0 (codeword-iff c .0 e))),
         λ v. codeword-iff c .1 (Generator.codeword C c .1 (w .0 (all-map (λ r. value-α r c .0) v))),
       )

@@ -5,7 +5,7 @@
 --   join-size           where they are apart, D has as many more members as the coset of r
 --   generator-join      and the generator is the product with that of r alone
 --   alone-is            D of one representative is its coset
---   apart-of            the cosets of different representatives, each the smallest of its own, are apart
+--   apart-of            the cosets of different represented, each the smallest of its own, are apart
 --   product-any         the generator's coefficients are those of the product over D in any order
 use mathlib.Core.Path.{_≡_, refl, sym, ap, ap₂, _∙_, subst, fun-ext}
 use mathlib.Core.Bool.{Bool, true, false, _||_, or-false}
@@ -34,7 +34,7 @@ use Rattle.document.specs.Coset.{inCoset, smallest, inSet, definingSet, 
 use Rattle.document.specs.Generator.{rootProduct, generatorPoly, generator}
 use Rattle.document.proofs.Sane.{set-size}
 use Rattle.document.proofs.Cosets.{coset-at, smallest-at, walk-on, walk-back}
-use Rattle.document.proofs.Theory.{Length, degree, T-of, of-T, representatives, members-are, codeOf, checks-are}
+use Rattle.document.proofs.Theory.{Length, degree, T-of, of-T, represented, members-are, codeOf, checks-are}
 use Rattle.document.proofs.GeneratorIs.{product-small, product-at, generator-digit, generator-is, generator-degree}
 
 abbrev pub CosetApart : ℕ → ℕ → List ℕ → Type 0
@@ -112,7 +112,7 @@ module _ {n : ℕ} (l : Length n) (r : ℕ) (reps : List ℕ) (h : CosetApart n 
   pub generator-join : generator n (r ∷ reps) ≡ clmul f g
   generator-join = generator-is l (r ∷ reps) ∙ sym (Generator.generator-unique C (clmul f g) product-degree product-vanishes)
 
--- ---- representatives
+-- ---- represented
 pub alone-is : (n r i : ℕ) → inSet n (r ∷ []) i ≡ inCoset n r i
 unfolding inSet some
 alone-is n r i = or-false (inCoset n r i)
@@ -125,7 +125,7 @@ apart-of {n} l r reps h f i e = go (inSet n reps i) refl
     none : inSet n reps i ≡ true → ⊥
     none t =
         let a = coset-at (l .odd) r i (sym (alone-is n r i) ∙ e) in
-        let b = representatives l reps .cover i (T-of t) in
+        let b = represented l reps .cover i (T-of t) in
         let back = walk-on n (b .0) (b .1) (orderOfTwo n - a .0) (b .3) in
         let least = smallest-at (l .odd) (b .0) (f (b .0) (b .2) .1) (b .1 + (orderOfTwo n - a .0)) in
         let is : b .0 * 2 ^ (b .1 + (orderOfTwo n - a .0)) % n ≡ r =

@@ -2,7 +2,7 @@
 --
 --   Length n            n is odd, and the order of 2 modulo n is a degree of the field's table: degree
 --   T-of, of-T          a test that says true
---   representatives     D is the union of the cosets of any list of numbers
+--   represented     D is the union of the cosets of any list of numbers
 --   root-mod            exponents of α count modulo n
 --   codeOf              so it is the defining set of a code: its checks are n - k, and its dimension is k
 use mathlib.Core.Path.{_≡_, refl, sym, ap, _∙_, subst}
@@ -76,9 +76,9 @@ in-some test (x ∷ l) e = go (test x) refl (in-some test l) e
 
 -- ---- the code
 module _ {n : ℕ} (l : Length n) (reps : List ℕ) where
-  pub representatives : Representatives n (inSet n reps) reps
+  pub represented : Representatives n (inSet n reps) reps
   unfolding inSet
-  representatives = record {
+  represented = record {
     inside = λ {r} m j. T-of (some-in (λ r₁. inCoset n r₁ (r * 2 ^ j % n)) m (coset-of (l .odd) r (r * 2 ^ j % n) j refl));
     cover = λ i t. let w = in-some (λ r. inCoset n r i) reps (of-T (inSet n reps i) t) in
         let v = coset-at (l .odd) (w .0) i (w .2) in
@@ -86,7 +86,7 @@ module _ {n : ℕ} (l : Length n) (reps : List ℕ) where
   }
 
   abbrev pub codeOf : Code (GF (degree l)) n
-  codeOf = cosetCode (degree l) (order-divides (l .odd)) representatives
+  codeOf = cosetCode (degree l) (order-divides (l .odd)) represented
 
   pub members-are : members (inSet n reps) n ≡ definingSet n reps
   unfolding members definingSet

@@ -3,7 +3,8 @@
 --   replied            a reply that is one of its cases
 --   coded-refused      a refusal's code is minus its number
 --   encode-done, read-done      what encoding and reading out return is 0
---   decode-fits, card-fits      what decoding returns is at most n, and a listing has at most 1,024 bytes: numbers of 32 bits
+--   decode-few, card-few      what decoding returns is at most n, and a listing has at most 1,024 bytes
+--   fits               so they are numbers of 32 bits
 --   counted-done       such a number is its own code
 use mathlib.Core.Path.{_≡_, refl, sym, ap, _∙_}
 use mathlib.Core.List.{List, [], _∷_, _++_}
@@ -98,10 +99,13 @@ changed-le sheet word out {m} e =
     let v : m ≡ differences n (wordOf sheet word) (decodedWord sheet word) = settled _ m _ _ _ _ e in
     omega (arith, v, differences-are n (wordOf sheet word) (decodedWord sheet word), count-le n (wordOf sheet word ⊕ decodedWord sheet word))
 
-pub decode-fits : (sheet word out : List ℕ) {m : ℕ} {o : List ℕ} → getD sheet 2 0 < 256 → (returned (m ∷ []), o) ≡ decodeOf sheet word out
-    → SFits w32 (pos m)
+pub fits : {m : ℕ} → m < 2147483648 → SFits w32 (pos m)
+fits h = record { sfits = omega arith }
+
+pub decode-few : (sheet word out : List ℕ) {m : ℕ} {o : List ℕ} → getD sheet 2 0 < 256 → (returned (m ∷ []), o) ≡ decodeOf sheet word out
+    → m < 2147483648
 unfolding codeLength
-decode-fits sheet word out h e = record { sfits = omega (arith, changed-le sheet word out e) }
+decode-few sheet word out h e = omega (arith, changed-le sheet word out e)
 
 -- ---- listing
 listed-le : (x : ℕ) {m : ℕ} (text old rest o : List ℕ) → (returned (m ∷ []), o) ≡ settle x (length text ∷ []) (text ++ rest) old → m ≤ length o
@@ -112,11 +116,11 @@ listed-le zero {m} text old rest o e =
     omega (arith, length-append text rest)
 listed-le (suc x) text old rest o e = let z : 0 ≡ suc x = ap (λ (a : Answer × List ℕ). a .0 .number) e in absurd (omega arith)
 
-pub card-fits : (sheet out : List ℕ) {m : ℕ} {o : List ℕ} → length o ≡ length out → (returned (m ∷ []), o) ≡ cardOf sheet out → SFits w32 (pos m)
+pub card-few : (sheet out : List ℕ) {m : ℕ} {o : List ℕ} → length o ≡ length out → (returned (m ∷ []), o) ≡ cardOf sheet out → m < 2147483648
 unfolding cardOf
-card-fits sheet out {m} {o} l e =
+card-few sheet out {m} {o} l e =
     elim (ℕ-discrete (length out) 1024) [
-      | yes q ↦ record { sfits = omega (arith, listed-le _ (listing sheet) out (drop (length (listing sheet)) out) o e) }
+      | yes q ↦ omega (arith, listed-le _ (listing sheet) out (drop (length (listing sheet)) out) o e)
       | no q ↦ (let z : _≡_ {A = ℕ} 0 11 = ap (λ (a : Answer × List ℕ). a .0 .number) (e ∙ sym (card-size sheet out q)) in absurd (omega arith))
     ]
 

@@ -1,5 +1,5 @@
--- Laws, in reading order: search, masks, the field of a degree, the order of two.
--- Laws: the tables as they are filled, and what is read off them.
+-- Laws, in reading order: search, masks, the field of a degree, the order of two, tables as they
+-- are filled and read.
 pub mod Search
 pub mod Xor
 pub mod Horner

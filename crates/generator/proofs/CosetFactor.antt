@@ -3,7 +3,7 @@
 --   Stepping             m members are in the product, and x and its root are the next
 --   stepping-first, stepping-more, stepping-end      it holds after the first, is kept, and ends where x is back at r
 --   stepping-lt          where x is not back, m is below s
---   stepping-roomy       the product is one that times_root takes
+--   stepping-extensible       the product is one that times_root takes
 use mathlib.Core.Path.{_≡_, refl, sym, ap, _∙_, subst}
 use mathlib.Core.Logic.{_≢_}
 use mathlib.Core.List.{List}
@@ -60,9 +60,9 @@ module _ {n s r a : ℕ} (w : CosetWalk n s r a) where
       List·getD-eq-default (rootProduct s (α s n) (walk n r m)) 0
       (omega (arith, product-length s (α s n) (walk n r m), length-walk n r m))
 
-  roomy : (m : ℕ) {p : List ℕ} → m < s → s < length p
+  extensible : (m : ℕ) {p : List ℕ} → m < s → s < length p
       → ((i : ℕ) → getD p i 0 ≡ getD (rootProduct s (α s n) (walk n r m)) i 0) → Extensible s m p
-  roomy m h l e = record {
+  extensible m h l e = record {
     degree = degree-of;
     small = λ i. subst (λ (x : ℕ). x < 2 ^ s) (sym (e i)) (product-small degree-of (α s n) (walk n r m) i);
     none = λ i k. e i ∙ product-none m i k;
@@ -73,8 +73,8 @@ module _ {n s r a : ℕ} (w : CosetWalk n s r a) where
   unfolding walk rootProduct
   start-holds o = o .one
 
-  pub start-roomy : {p : List ℕ} → One s p → Extensible s 0 p
-  start-roomy o = roomy 0 (omega (arith, w .s-is, order-pos n)) (o .fits) (start-holds o)
+  pub start-extensible : {p : List ℕ} → One s p → Extensible s 0 p
+  start-extensible o = extensible 0 (omega (arith, w .s-is, order-pos n)) (o .fits) (start-holds o)
 
   pub root-lt : a < 2 ^ s
   root-lt = subst (λ (x : ℕ). x < 2 ^ s) (sym (w .a-is)) (power-lt degree-of (α s n) r)
@@ -97,7 +97,7 @@ module _ {n s r a : ℕ} (w : CosetWalk n s r a) where
     x-lt = count-lt (w .odd) _ _ e;
     root-is = squared r (w .a-is) e f;
     first = λ j h k. absurd (omega arith);
-    holds = next-holds 0 (start-roomy o) (walk-start (w .r-lt)) (w .a-is) t (start-holds o);
+    holds = next-holds 0 (start-extensible o) (walk-start (w .r-lt)) (w .a-is) t (start-holds o);
   }
 
   module _ {m x root : ℕ} {p : List ℕ} (t : Stepping n s r m x root p) where
@@ -108,8 +108,8 @@ module _ {n s r a : ℕ} (w : CosetWalk n s r a) where
           | no e ↦ omega (arith, t .most, e)
         ]
 
-    pub stepping-roomy : x ≢ r → s < length p → Extensible s m p
-    stepping-roomy h l = roomy m (stepping-lt h) l (t .holds)
+    pub stepping-extensible : x ≢ r → s < length p → Extensible s m p
+    stepping-extensible h l = extensible m (stepping-lt h) l (t .holds)
 
     pub stepping-root : root < 2 ^ s
     stepping-root = subst (λ (b : ℕ). b < 2 ^ s) (sym (t .root-is)) (power-lt degree-of (α s n) x)
@@ -127,7 +127,7 @@ module _ {n s r a : ℕ} (w : CosetWalk n s r a) where
             | yes q ↦ λ z. h (t .x-is ∙ ap (λ (i : ℕ). r * 2 ^ i % n) (sym q) ∙ z)
             | no q ↦ t .first j b (omega (arith, q))
           ];
-          holds = next-holds m (stepping-roomy h l) (t .x-is) (t .root-is) k (t .holds);
+          holds = next-holds m (stepping-extensible h l) (t .x-is) (t .root-is) k (t .holds);
         })
 
     pub stepping-end : x ≡ r → CosetWalked n s r m p

@@ -1,6 +1,5 @@
 -- The generator in the making. No entry's contract cites this file.
 --
---   CosetApart n r reps         the coset of r and D have no member in common
 --   Rising n reps          representatives below n, strictly rising, each the smallest of its coset
 --   Lengths n s            an odd length with its s, at most 12
 --   Building n d reps g w  g holds the generator of reps, of degree d, and w holds 0

@@ -1,5 +1,4 @@
--- Pieces written one after the other, and decimal numbers.
--- What the lines of the listing are made of.
+-- Laws, in reading order: pieces written one after the other, decimal numbers, and what the lines are made of.
 pub mod Writing
 pub mod Decimals
 pub mod Pieces

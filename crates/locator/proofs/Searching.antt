@@ -70,7 +70,7 @@ module _ {n s z f u len q : ℕ} {lam e g lg st lo hi list : List ℕ} (p : Sear
   pub located : {t c r : ℕ} {lg′ st′ lo′ hi′ list′ : List ℕ} → TermsListed s ((n - z) * q) f u lam lg′ st′ lo′ hi′ c
       → Found n t (hits n (vanishes s (getD lam 0 0) c lg′ st′ lo′ hi′)) list′ r → Located n s z f t lam list′ r
   located {t} {c} {r} {lg′} {st′} {lo′} {hi′} {list′} v x = record {
-    places = hits n test;
+    mask = hits n test;
     small = hits-lt n test;
     means = λ d i h.
         let a = divides-substituted (GF d) _ _ (opposite d i) (lift (GF d) f) (series d lam) in

@@ -27,23 +27,23 @@ use Rattle.syndrome.specs.Sums.{Listed}
 use Rattle.poly.specs.Slice.{series}
 use Rattle.locator.specs.Terms.{LocatorSlices}
 
-pub record Noted (hit : Bool) (c i : ℕ) (list list′ : List ℕ) (r : ℕ) : Type 0 where
+pub record Noted (hit : Bool) (c i : ℕ) (places places′ : List ℕ) (r : ℕ) : Type 0 where
   pub is : r ≡ bit hit
-  pub made : list′ ≡ set list c i
+  pub made : places′ ≡ set places c i
 
-pub record NotedBelow (n : ℕ) (hit : Bool) (c i : ℕ) (list list′ : List ℕ) (r : ℕ) : Type 0 where
-  pub inside : i < n → Noted hit c i list list′ r
-  pub outside : n ≤ i → (r ≡ 0) × (list′ ≡ list)
+pub record NotedBelow (n : ℕ) (hit : Bool) (c i : ℕ) (places places′ : List ℕ) (r : ℕ) : Type 0 where
+  pub inside : i < n → Noted hit c i places places′ r
+  pub outside : n ≤ i → (r ≡ 0) × (places′ ≡ places)
 
 unfoldable pub hits : ℕ → (ℕ → Bool) → ℕ
 hits n test = gather n (λ i. bit (test i))
 
 -- r places if they are at most t, all of them listed; if not, there are more than t
-pub record Found (n t places : ℕ) (list : List ℕ) (r : ℕ) : Type 0 where
-  pub all : r ≤ t → (r ≡ count n places) × Listed n places list r
-  pub many : t < r → t < count n places
+pub record Found (n t mask : ℕ) (places : List ℕ) (r : ℕ) : Type 0 where
+  pub all : r ≤ t → (r ≡ count n mask) × Listed n mask places r
+  pub many : t < r → t < count n mask
 
-pub record Search (n s z f u len : ℕ) (lam e g lg st lo hi list : List ℕ) : Type 0 where
+pub record Search (n s z f u len : ℕ) (lam e g lg st lo hi places : List ℕ) : Type 0 where
   pub tables : Tables s e g
   pub odd : OddLength n
   pub s-is : s ≡ orderOfTwo n
@@ -51,13 +51,13 @@ pub record Search (n s z f u len : ℕ) (lam e g lg st lo hi list : List ℕ) : 
   pub z-hi : z < n
   pub modulus : Modulus f u
   pub locator : LocatorSlices s len lam lg st lo hi
-  pub list-long : n ≤ length list
+  pub list-long : n ≤ length places
   pub few : n ≤ 256
 
-pub record Located (n s z f t : ℕ) (lam list : List ℕ) (r : ℕ) : Type 0 where
-  pub places : ℕ
-  pub small : places < 2 ^ n
+pub record Located (n s z f t : ℕ) (lam places : List ℕ) (r : ℕ) : Type 0 where
+  pub mask : ℕ
+  pub small : mask < 2 ^ n
   pub means : (d : Degree s) (i : ℕ) → i < n
       → Divides (Polys (GF d)) (sub (GF d) (pow (GF d) (root d n) (i * z)) (lift (GF d) f)) (series d lam)
-      ↔ (coefficient i places ≡ 1)
-  pub found : Found n t places list r
+      ↔ (coefficient i mask ≡ 1)
+  pub found : Found n t mask places r

@@ -119,10 +119,10 @@ module _ {s l la lb lv lw : ℕ} {S a b v w e g : List ℕ} (z : State s l S a b
   }
 
 pub outcome-v : {s l stop n : ℕ} {S v w : List ℕ} → Solved s l stop S v n → Outcome s l stop S false n v w
-outcome-v y = record { in-v = λ e. y; in-w = λ e. absurd (true-ne-false e refl) }
+outcome-v y = record { in-lower = λ e. y; in-upper = λ e. absurd (true-ne-false e refl) }
 
 pub outcome-w : {s l stop n : ℕ} {S v w : List ℕ} → Solved s l stop S w n → Outcome s l stop S true n v w
-outcome-w y = record { in-v = λ e. absurd (true-ne-false refl e); in-w = λ e. y }
+outcome-w y = record { in-lower = λ e. absurd (true-ne-false refl e); in-upper = λ e. y }
 
 pub state-start : {s l stop lb : ℕ} {a b v w e g : List ℕ} → Solvable s l stop a b v w e g → lb ≤ l → LengthOf b lb
     → State s l b (set a l 1) b (set v 0 1) w e g (l + 1) lb 1 1

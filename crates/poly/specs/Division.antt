@@ -1,4 +1,4 @@
--- RowDivision of polynomials in slices, with cofactors. A row of Euclid's algorithm is a remainder and its cofactor.
+-- Division of polynomials in slices, with cofactors. A row of Euclid's algorithm is a remainder and its cofactor.
 --
 --   plus d p q r              the series p + q r
 --   Addable s i k n a b e g   what adding ω^k x^i b to a asks for, where b has n coefficients

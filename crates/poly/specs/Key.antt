@@ -3,7 +3,7 @@
 --   Solvable s l stop a b v w e g     b holds the series S below l; a, v and w hold 0, and all four are long enough
 --   Key d l stop S t n                t is the cofactor of a remainder of at most stop coefficients, and has n of its own
 --   Solved s l stop S t n             the slice t holds that cofactor in its first n places, in every field of degree s
---   Outcome s l stop S second n v w   it is in w where second, and else in v
+--   Outcome s l stop S upper n v w   it is in w where upper, and else in v
 use mathlib.Core.Path.{_≡_}
 use mathlib.Core.Bool.{Bool, true, false}
 use mathlib.Core.List.{List}
@@ -40,6 +40,6 @@ pub record Solved (s l stop : ℕ) (S t : List ℕ) (n : ℕ) : Type 0 where
   pub long : n ≤ length t
   pub key : (d : Degree s) → Key d l stop S t n
 
-pub record Outcome (s l stop : ℕ) (S : List ℕ) (second : Bool) (n : ℕ) (v w : List ℕ) : Type 0 where
-  pub in-v : second ≡ false → Solved s l stop S v n
-  pub in-w : second ≡ true → Solved s l stop S w n
+pub record Outcome (s l stop : ℕ) (S : List ℕ) (upper : Bool) (n : ℕ) (v w : List ℕ) : Type 0 where
+  pub in-lower : upper ≡ false → Solved s l stop S v n
+  pub in-upper : upper ≡ true → Solved s l stop S w n

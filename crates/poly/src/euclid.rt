@@ -4,8 +4,8 @@ use crate::division::reduce;
 use crate::row::length_of;
 use crate::types::LocatorRow;
 
-// Euclid's algorithm on x^l, above, and what the lower slice holds, until a remainder has at most `stop` coefficients: its cofactor is
-// the locator, up to a constant factor. The rows take turns, so that nothing is copied.
+// Euclid's algorithm on x^l, above, and what the lower slice holds, until a remainder has at most `stop` coefficients: its cofactor
+// is what is asked for, and the locator up to a constant factor where at most t places are wrong. The rows take turns, so that nothing is copied.
 pub fn euclid(
     s: usize,
     upper: &mut [u16],

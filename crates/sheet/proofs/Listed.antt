@@ -5,7 +5,6 @@
 --   listed-start, listed-more, listed-end      the loop
 --   wrong-range, wrong-order, wrong-coset      its exits
 --   Walk, walk-start .. walk-end      the same with the code's locals
---   marks-size, size-is         as many marks as members of D, so k is n less their number
 use mathlib.Core.Path.{_≡_, refl, sym, ap, ap₂, _∙_, subst}
 use mathlib.Core.Logic.{_≢_}
 use mathlib.Core.Bool.{Bool, true, false, not, _||_, _&&_}

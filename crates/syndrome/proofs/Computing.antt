@@ -3,7 +3,7 @@
 --   columnable, summable, value-here      the value at a representative by columns
 --   Computing, computing-start, computing-more, computing-end      the first k representatives
 --   Testing, testing-start, testing-more, testing-end, testing-wrong      a codeword is 0 at each representative
---   Quiet, quiet-zero, quiet-other, quiet-start, quiet-more, quiet-end      whether the values so far are 0
+--   AllZero, quiet-zero, quiet-other, quiet-start, quiet-more, quiet-end      whether the values so far are 0
 --   Values, values-start, values-more, values-end      all that the loop keeps
 --   values-summable, values-by, values-in      what a turn needs
 use mathlib.Core.Path.{_≡_, refl, sym, ap, ap₂, _∙_, subst}
@@ -128,7 +128,7 @@ testing-wrong {n} {s} {k} {r} {v} {w} {reps} p h e ne f = record {
         ∙ all-at (g refl) (subst (λ (x : ℕ). In x reps) (sym e) (at-in reps k h))))
 
 -- ---- the same beside the values: quiet as long as all are 0
-pub record Quiet (n s k : ℕ) (w reps : List ℕ) (quiet : Bool) : Type 0 where
+pub record AllZero (n s k : ℕ) (w reps : List ℕ) (quiet : Bool) : Type 0 where
   pub yes : quiet ≡ true → Testing n s k w reps
   pub no : quiet ≡ false → ValuesTested n w reps false
 
@@ -146,28 +146,28 @@ quiet-other clean {v} z = sym (ap (λ b. clean && b) (ne-eqb v 0 z) ∙ and-fals
     and-false true = refl
     and-false false = refl
 
-pub quiet-start : {n s : ℕ} {w reps : List ℕ} → Quiet n s 0 w reps true
+pub quiet-start : {n s : ℕ} {w reps : List ℕ} → AllZero n s 0 w reps true
 quiet-start = record { yes = λ e. testing-start; no = λ e. absurd (true-ne-false refl e) }
 
 pub quiet-more : {n s k r v : ℕ} {w reps e : List ℕ} {quiet : Bool} → Evaluable n s reps e → k < length reps → r ≡ getD reps k 0
-    → ((c : ℕ) → Holds c w → c < 2 ^ n → v ≡ valueOf n s c r) → Quiet n s k w reps quiet → Quiet n s (k + 1) w reps (quiet && eqb v 0)
+    → ((c : ℕ) → Holds c w → c < 2 ^ n → v ≡ valueOf n s c r) → AllZero n s k w reps quiet → AllZero n s (k + 1) w reps (quiet && eqb v 0)
 quiet-more {n} {s} {k} {r} {v} {w} {reps} {quiet = quiet} p h e f t = go quiet refl (ℕ-discrete v 0)
   where
-    go : (b : Bool) → quiet ≡ b → Dec (v ≡ 0) → Quiet n s (k + 1) w reps (quiet && eqb v 0)
+    go : (b : Bool) → quiet ≡ b → Dec (v ≡ 0) → AllZero n s (k + 1) w reps (quiet && eqb v 0)
     go false q d =
-        subst (Quiet n s (k + 1) w reps) (sym (ap (λ b. b && eqb v 0) q))
+        subst (AllZero n s (k + 1) w reps) (sym (ap (λ b. b && eqb v 0) q))
         record { yes = λ o. absurd (true-ne-false o refl); no = λ o. t .no q }
     go true q (yes z) =
-        subst (Quiet n s (k + 1) w reps) (sym (ap₂ _&&_ q (eq-eqb v 0 z)))
+        subst (AllZero n s (k + 1) w reps) (sym (ap₂ _&&_ q (eq-eqb v 0 z)))
         record {
           yes = λ o. testing-more (t .yes q) e (λ c hc l. sym z ∙ f c hc l);
           no = λ o. absurd (true-ne-false refl o);
         }
     go true q (no z) =
-        subst (Quiet n s (k + 1) w reps) (sym (ap₂ _&&_ q (ne-eqb v 0 z)))
+        subst (AllZero n s (k + 1) w reps) (sym (ap₂ _&&_ q (ne-eqb v 0 z)))
         record { yes = λ o. absurd (true-ne-false o refl); no = λ o. testing-wrong {k = k} p h e z f }
 
-pub quiet-end : {n s k : ℕ} {w reps e : List ℕ} {quiet : Bool} → Evaluable n s reps e → length reps ≤ k → Quiet n s k w reps quiet
+pub quiet-end : {n s k : ℕ} {w reps e : List ℕ} {quiet : Bool} → Evaluable n s reps e → length reps ≤ k → AllZero n s k w reps quiet
     → ValuesTested n w reps quiet
 quiet-end {n} {w = w} {reps} {quiet = quiet} p h t = go quiet refl
   where
@@ -187,7 +187,7 @@ pub record Values (n s b q count : ℕ) (w reps e g col val₀ val : List ℕ) (
   pub k-le : k ≤ count
   pub kept : length val ≡ length val₀
   pub computing : Computing n s k w reps val
-  pub quiet : Quiet n s k w reps clean
+  pub quiet : AllZero n s k w reps clean
 
 pub values-start : {n s o : ℕ} {w reps e g empty col val : List ℕ} → Computable n s w reps e g empty val
     → length col ≡ length empty → Columned ((n + 7) / 8 * 2) w col → o ≡ 2 ^ s - 1
@@ -237,7 +237,7 @@ module _ {n s b q count k : ℕ} {w reps e g col val₀ val : List ℕ} {clean :
         k-le = omega arith;
         kept = simp length-set (t .kept);
         computing = computing-more (t .computing) refl (values-in .1) f;
-        quiet = subst (Quiet n s (k + 1) w reps) (sym o) (quiet-more (t .given .setting) here refl f (t .quiet));
+        quiet = subst (AllZero n s (k + 1) w reps) (sym o) (quiet-more (t .given .setting) here refl f (t .quiet));
       }
 
 pub values-end : {n s b q count k : ℕ} {w reps e g col val₀ val : List ℕ} {clean : Bool} → count ≤ k

@@ -1,14 +1,14 @@
 -- Values at all of D from those at the representatives.
 --
---   spreadable      what the next coset needs
---   Extending, extending-start, extending-more, extending-end      the cosets of the first k representatives
+--   conjugable      what the next coset needs
+--   Extending, extending-start, extending-more, extending-end      the cosets of the first k represented
 use mathlib.Core.Path.{_≡_, sym, ap, _∙_, subst}
 use mathlib.Core.List.{List}
 use Prim.Native.Nat.{ℕ, _+_, _*_, _%_, _^_, _≤_, _<_}
 use native.Mathlib.Decide.{ℕ-discrete}
 use native.Mathlib.Omega.{arith}
 use lib.ListN.{length, getD}
-use Rattle.document.proofs.Theory.{T-of, representatives}
+use Rattle.document.proofs.Theory.{T-of, represented}
 use Rattle.syndrome.specs.Value.{valueOf, HeldAt, Conjugable, Conjugated, Extendable, Extended}
 use Rattle.syndrome.proofs.Setting.{long, in-at, value-lt}
 
@@ -34,9 +34,9 @@ extending-more {n} {s} {k} {r} {v} {reps} {val} {val′} {val″} t b e f p = re
     here : (c : ℕ) → HeldAt n s c reps val → v ≡ valueOf n s c r
     here c h = f ∙ ap (λ (x : ℕ). getD val′ x 0) e ∙ t .held c h k b ∙ ap (valueOf n s c) (sym e)
 
-pub spreadable : {n s k r v : ℕ} {reps e g val val′ : List ℕ} → Extendable n s reps e g val → Extending n s k reps val val′ → k < length reps
+pub conjugable : {n s k r v : ℕ} {reps e g val val′ : List ℕ} → Extendable n s reps e g val → Extending n s k reps val val′ → k < length reps
     → r ≡ getD reps k 0 → v ≡ getD val′ r 0 → length val′ ≡ length val → Conjugable n s r v e g val′
-spreadable {n} {s} {k} {r} {v} {reps} {val′ = val′} p t h a f l = record {
+conjugable {n} {s} {k} {r} {v} {reps} {val′ = val′} p t h a f l = record {
   odd = p .setting .odd;
   s-is = p .setting .s-is;
   r-lt = subst (λ (x : ℕ). x < n) (sym a) (p .setting .below k h);
@@ -50,7 +50,7 @@ pub extending-end : {n s k : ℕ} {reps e g val val′ : List ℕ} → Extendabl
     → Extended n s reps val val′
 extending-end {n} {s} {k} {reps} {val = val} {val′} p h t = record {
   at = λ c hc i q.
-      let r = representatives (long (p .setting)) reps .cover i (T-of q) in
+      let r = represented (long (p .setting)) reps .cover i (T-of q) in
       let a = in-at (r .2) in
       let x : getD reps (a .0) 0 * 2 ^ r .1 % n ≡ i = ap (λ (y : ℕ). y * 2 ^ r .1 % n) (a .2) ∙ r .3 in
       subst (λ (y : ℕ). getD val′ y 0 ≡ valueOf n s c y) x (t .done c hc (a .0) (r .1) (omega (arith, a .1)));

@@ -1,5 +1,4 @@
--- Laws, in reading order.
--- Laws, in reading order.
+-- Laws, in reading order: lanes and lists, a word by its columns, values along cosets, the test, syndromes.
 pub mod Lanes
 pub mod Listing
 pub mod ValueSums

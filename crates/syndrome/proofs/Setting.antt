@@ -2,7 +2,7 @@
 --
 --   long              n is a length of the document's
 --   at-in, in-at      members of a list by their place; rep-in: a representative is in D
---   by-lt, place-lt   exponents below the order of ω; length-le
+--   by-lt, place-lt   exponents below the order of ω
 --   value-lt, value-add      values are elements, and that of a sum is the sum of the values
 use mathlib.Core.Path.{_≡_, refl, sym, ap, ap₂, _∙_, subst}
 use mathlib.Core.Bool.{true}
@@ -19,7 +19,7 @@ use Rattle.field.proofs.Value.{value-add as ring-value-add}
 use Rattle.field.proofs.Xor.{⊕-lt}
 use Rattle.document.specs.Generator.{valueAt}
 use Rattle.document.specs.Coset.{inSet}
-use Rattle.document.proofs.Theory.{Length, of-T, representatives}
+use Rattle.document.proofs.Theory.{Length, of-T, represented}
 use Rattle.document.proofs.Demand2.{below-lt, value-is}
 use Rattle.syndrome.proofs.Roots.{q-pos, root-lt}
 use Rattle.syndrome.specs.Value.{Evaluable}
@@ -42,7 +42,7 @@ pub rep-in : {n : ℕ} (l : Length n) (reps : List ℕ) → ((k : ℕ) → k < l
 rep-in {n} l reps below k h =
     let r : ℕ = getD reps k 0 in
     let e : r * 2 ^ 0 % n ≡ r = ap (λ (x : ℕ). x % n) (mul-one r) ∙ mod-eq-of-lt (below k h) in
-    ap (inSet n reps) (sym e) ∙ of-T (inSet n reps (r * 2 ^ 0 % n)) (representatives l reps .inside (at-in reps k h) 0)
+    ap (inSet n reps) (sym e) ∙ of-T (inSet n reps (r * 2 ^ 0 % n)) (represented l reps .inside (at-in reps k h) 0)
 
 -- ---- exponents
 module _ {n s q : ℕ} {reps e : List ℕ} (p : Evaluable n s reps e) (q-is : q ≡ (2 ^ s - 1) / n) where

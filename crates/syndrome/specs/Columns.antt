@@ -1,4 +1,5 @@
--- A word of 4 b places in b columns, each with the places i, b + i, 2 b + i and 3 b + i in lanes. No entry's contract cites this file.
+-- A word of 4 b places in b columns (the code's width), each with the places i, b + i, 2 b + i and 3 b + i in lanes. No entry's
+-- contract cites this file.
 --
 --   runSum h w at m     the sum of h i over the i below m at which w has a 1 at place at + i
 --   column b w i        the four places of column i

@@ -1,6 +1,6 @@
-use native.Mathlib.Omega.{arith}
 -- `dunefork::dunefork_card` meets its contract: the entry's answer as a code.
-use Rattle.dunefork.proofs.Coded.{replied, coded-refused, card-fits, counted-done}
+use native.Mathlib.Omega.{arith}
+use Rattle.dunefork.proofs.Coded.{replied, coded-refused, fits, card-few, counted-done}
 use borrow.Author.Needs.{needs}
 use Rattle.dunefork.proofs.dunefork_card.Statement.{statement}
 use Rattle.dunefork.proofs.dunefork_card.Tie as tie
@@ -16,7 +16,7 @@ enum-known-reply : tie.Need-enum-known-reply
 enum-known-reply c = search needs
 
 cast-result : tie.Need-cast-result
-cast-result c = card-fits (c .before .before .before .before .before .before .before .before .before .args .sheet .now) _ (omega (arith, c .before .before .before .before .before .card .kept .1 .0)) (replied (c .before .reply .given .1) (c .before .before .before .before .before .card .ensures))
+cast-result c = fits (omega (arith, card-few (c .before .before .before .before .before .before .before .before .before .args .sheet .now) _ (omega (arith, c .before .before .before .before .before .card .kept .1 .0)) (replied (c .before .reply .given .1) (c .before .before .before .before .before .card .ensures))))
 
 enum-known-reply-2 : tie.Need-enum-known-reply-2
 enum-known-reply-2 c = search needs
@@ -28,7 +28,7 @@ same-length : tie.Need-same-length
 same-length c = c .before .before .before .before .before .card .kept .1 .0
 
 returns : tie.Need-returns
-returns c = let e = replied (c .before .reply .given .1) (c .before .before .before .before .before .card .ensures) in counted-done (card-fits (c .before .before .before .before .before .before .before .before .before .args .sheet .now) _ (omega (arith, c .before .before .before .before .before .card .kept .1 .0)) e) e
+returns c = let e = replied (c .before .reply .given .1) (c .before .before .before .before .before .card .ensures) in counted-done (fits (card-few (c .before .before .before .before .before .before .before .before .before .args .sheet .now) _ (omega (arith, c .before .before .before .before .before .card .kept .1 .0)) e)) e
 
 same-length-2 : tie.Need-same-length-2
 same-length-2 c = c .before .before .before .before .before .before .card .kept .1 .0

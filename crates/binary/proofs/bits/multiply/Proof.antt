@@ -1,4 +1,4 @@
--- `binary::bits::multiply` meets its contract: the product with the first j coefficients of p stands.
+-- `binary::bits::multiply` meets its contract: the product with the first j coefficients of the multiplier stands.
 use native.Mathlib.Omega.{arith}
 use mathlib.Core.Path.{_≡_, refl}
 use Prim.Native.Nat.{_+_, _-_, _≤_}

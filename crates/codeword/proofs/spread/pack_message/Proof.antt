@@ -1,4 +1,4 @@
--- `codeword::spread::pack_message` meets its contract: the first i places are the entries of w.
+-- `codeword::spread::pack_message` meets its contract: the first i places are those of the slice.
 use native.Mathlib.Omega.{arith}
 use mathlib.Core.Path.{_≡_, refl}
 use Prim.Native.Nat.{_-_, _*_, _≤_}

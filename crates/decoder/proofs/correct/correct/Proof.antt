@@ -1,7 +1,7 @@
 -- `decoder::correct::correct` meets its contract: values, syndromes, rows, places, verdict.
 use mathlib.Core.Path.{refl, _∙_}
 use Rattle.decoder.proofs.Reception.{known}
-use Rattle.decoder.proofs.Correcting.{computable, extendable, walkable, comparable, solvable, search, stop-fits, stop-word, f-small, b-enough, corrected, corrected-clean}
+use Rattle.decoder.proofs.Correcting.{computable, extendable, walkable, comparable, solvable, search, stop-fits, stop-word, f-small, lower-enough, corrected, corrected-clean}
 use Rattle.decoder.proofs.correct.correct.Statement.{statement}
 use Rattle.decoder.proofs.correct.correct.Tie as tie
 use Rattle.decoder.proofs.correct.correct.Reads as reads
@@ -31,7 +31,7 @@ extend-requires : tie.Need-extend-requires
 extend-requires c κs = extendable (c .before .before .before .before .before .before .before .before .before .before .before .before .before .before .before .before .before .before .before .before .before .before .before .before .pre) (c .before .before .before .before .before .before .evaluate .kept .1 .1 .1 .1 .1 .1 .1 .0) (c .before .before .before .before .before .before .evaluate .ensures .0)
 
 syndromes-requires : tie.Need-syndromes-requires
-syndromes-requires c κs = let p = c .before .before .before .before .before .before .before .before .before .before .before .before .before .before .before .before .before .before .before .before .before .before .before .before .before .before .before .before .before .pre in (walkable p (c .before .before .before .before .extend .kept .1 .1 .1 .1 .1 .0 ∙ c .before .before .before .before .before .before .before .before .before .before .before .evaluate .kept .1 .1 .1 .1 .1 .1 .1 .0), b-enough p)
+syndromes-requires c κs = let p = c .before .before .before .before .before .before .before .before .before .before .before .before .before .before .before .before .before .before .before .before .before .before .before .before .before .before .before .before .before .pre in (walkable p (c .before .before .before .before .extend .kept .1 .1 .1 .1 .1 .0 ∙ c .before .before .before .before .before .before .before .before .before .before .before .evaluate .kept .1 .1 .1 .1 .1 .1 .1 .0), lower-enough p)
 
 degree-requires : tie.Need-degree-requires
 degree-requires c κs = f-small (c .before .before .before .before .before .before .before .before .before .before .before .before .before .before .before .before .before .before .before .before .before .before .before .before .before .before .before .before .before .before .before .before .pre)

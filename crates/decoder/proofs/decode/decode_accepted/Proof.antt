@@ -1,5 +1,5 @@
-use native.Mathlib.Omega.{arith}
 -- `decoder::decode::decode_accepted` meets its contract: one law for each exit.
+use native.Mathlib.Omega.{arith}
 use mathlib.Core.Path.{sym, ap, _∙_}
 use Rattle.codeword.proofs.Places.{for-le}
 use Rattle.codeword.proofs.Words.{part-end}

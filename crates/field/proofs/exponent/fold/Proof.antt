@@ -1,4 +1,4 @@
--- `field::exponent::fold` meets its contract.
+-- `field::exponent::fold` meets its contract: the high part of an exponent counts 2^s - 1 each, which ω does not see.
 use borrow.Author.Needs.{needs}
 use native.Mathlib.Omega.{arith}
 use mathlib.Core.Path.{ap}

@@ -1,5 +1,5 @@
+-- `field::exponent::index` meets its contract: a logarithm and a product of two numbers below the order fold into two rounds.
 use native.Mathlib.Omega.{arith}
--- `field::exponent::index` meets its contract.
 use Rattle.field.proofs.Exponents.{exponent-lt, exponent-cap}
 use Rattle.field.proofs.Primitive.{Degree-bounds}
 use borrow.Author.Needs.{needs}

@@ -1,4 +1,4 @@
--- `field::exponent::term` meets its contract.
+-- `field::exponent::term` meets its contract: the table holds the power at the folded exponent.
 use Rattle.field.proofs.Exponents.{looked}
 use borrow.Author.Needs.{needs}
 use Rattle.field.proofs.exponent.term.Statement.{statement}

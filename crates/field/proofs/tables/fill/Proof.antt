@@ -1,5 +1,5 @@
-use native.Mathlib.Omega.{arith}
 -- `field::tables::fill` meets its contract: each power past the first round is the one a round before it.
+use native.Mathlib.Omega.{arith}
 use mathlib.Core.Path.{_≡_, refl, _∙_}
 use Prim.Native.Nat.{_-_, _*_, _^_, _≤_}
 use lib.ListN.{length, length-set}

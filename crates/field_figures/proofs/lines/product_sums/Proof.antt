@@ -1,4 +1,4 @@
--- `field_figures::lines::product_sums` meets its contract: the arrays have tables-fit for the tables of every degree.
+-- `field_figures::lines::product_sums` meets its contract: the arrays are long enough for the tables of every degree.
 use native.Mathlib.Omega.{arith}
 use Rattle.field_figures.proofs.Laws.{tables-fit}
 use borrow.Author.Needs.{needs}

@@ -4,7 +4,7 @@ use mathlib.Core.Path.{_≡_, refl}
 use Prim.Native.Nat.{_-_, _<_}
 use lib.ListN.{length}
 use Rattle.generator.specs.Coefficients.{CosetWalk}
-use Rattle.generator.proofs.CosetFactor.{Stepping, degree-of, start-roomy, root-lt, stepping-first, stepping-lt, stepping-roomy}
+use Rattle.generator.proofs.CosetFactor.{Stepping, degree-of, start-extensible, root-lt, stepping-first, stepping-lt, stepping-extensible}
 use Rattle.generator.proofs.CosetFactor.{stepping-root, stepping-more, stepping-end}
 use Rattle.generator.proofs.coset.coset_factor.Statement.{statement}
 use Rattle.generator.proofs.coset.coset_factor.Tie as tie
@@ -16,7 +16,7 @@ abbrev μ-loop : tie.MeasureT-loop
 μ-loop factor₀ n s r a x₀ root₀ m₀ factor x root m = s - m
 
 times-root-requires : tie.Need-times-root-requires Inv-loop μ-loop
-times-root-requires c κs = let w = c .before .before .pre in (start-roomy (w .0) (w .1), root-lt (w .0))
+times-root-requires c κs = let w = c .before .before .pre in (start-extensible (w .0) (w .1), root-lt (w .0))
 
 twice-requires : tie.Need-twice-requires Inv-loop μ-loop
 twice-requires c κs = let w = c .before .before .before .before .before .pre .0 in (w .odd, w .r-lt)
@@ -37,7 +37,7 @@ loop-holds c =
 times-root-requires-2 : tie.Need-times-root-requires-2 Inv-loop μ-loop
 times-root-requires-2 c κs =
     let v = c .before .before .loop .inv in
-    (stepping-roomy (v .0) (v .3) (c .before .loop-test .taken) (v .1), stepping-root (v .0) (v .3))
+    (stepping-extensible (v .0) (v .3) (c .before .loop-test .taken) (v .1), stepping-root (v .0) (v .3))
 
 twice-requires-2 : tie.Need-twice-requires-2 Inv-loop μ-loop
 twice-requires-2 c κs = let v = c .before .before .before .before .before .loop .inv in (v .0 .odd, v .3 .x-lt)

@@ -1,4 +1,4 @@
--- `generator::generator::generator` meets its contract: g holds the generator of the representatives from i on.
+-- `generator::generator::generator` meets its contract: the product is the generator of the representatives from i on.
 use native.Mathlib.Omega.{arith}
 use mathlib.Core.Path.{_≡_, refl}
 use Prim.Native.Nat.{_+_, _-_, _≤_, _<_}

@@ -1,4 +1,4 @@
--- `locator::search::note_below` meets its contract.
+-- `locator::search::note_below` meets its contract: a place past the last is none, and nothing is written.
 use native.Mathlib.Omega.{arith}
 use mathlib.Core.Path.{refl}
 use borrow.Author.Needs.{needs}

@@ -1,4 +1,4 @@
--- `locator::terms::lanes` meets its contract.
+-- `locator::terms::lanes` meets its contract: four digits, 16 places apart.
 use borrow.Author.Needs.{needs}
 use Rattle.locator.proofs.Lanes.{lanes-are}
 use Rattle.locator.proofs.terms.lanes.Statement.{statement}

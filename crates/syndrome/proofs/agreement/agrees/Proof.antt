@@ -1,5 +1,5 @@
-use native.Mathlib.Omega.{arith}
 -- `syndrome::agreement::agrees` meets its contract: the listed places have the word's value at each representative before.
+use native.Mathlib.Omega.{arith}
 use mathlib.Core.Path.{_≡_, refl, ap}
 use Prim.Native.Nat.{ℕ, _-_, _/_, _^_, _≤_}
 use lib.ListN.{length}

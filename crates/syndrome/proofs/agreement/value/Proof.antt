@@ -1,5 +1,5 @@
-use native.Mathlib.Omega.{arith}
 -- `syndrome::agreement::value` meets its contract: the first k places of the list are in the sum.
+use native.Mathlib.Omega.{arith}
 use Prim.Native.Nat.{_-_, _≤_}
 use Rattle.syndrome.specs.Sums.{Valuable}
 use Rattle.syndrome.proofs.ValueSums.{Valuing, valuing-start, valuing-more, valuing-end}

@@ -1,5 +1,5 @@
+-- `syndrome::columns::column` meets its contract: four places, each 0 or 1, 16 places apart.
 use native.Mathlib.Omega.{arith}
--- `syndrome::columns::column` meets its contract.
 use Rattle.syndrome.proofs.Columning.{column-is}
 use Prim.Native.Nat.{_+_, _*_}
 use borrow.Author.Needs.{needs}

@@ -1,5 +1,5 @@
-use native.Mathlib.Omega.{arith}
 -- `syndrome::columns::fill_columns` meets its contract: the first i columns are written.
+use native.Mathlib.Omega.{arith}
 use mathlib.Core.Path.{_≡_, refl}
 use Prim.Native.Nat.{_-_, _≤_}
 use lib.ListN.{length, length-set}

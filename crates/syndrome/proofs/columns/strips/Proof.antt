@@ -1,6 +1,6 @@
+-- `syndrome::columns::strips` meets its contract: the first i columns are in the sums, i even.
 use borrow.Author.Needs.{needs}
 use native.Mathlib.Omega.{arith}
--- `syndrome::columns::strips` meets its contract: the first i columns are in the sums, i even.
 use mathlib.Core.Path.{_≡_, refl, _∙_}
 use Prim.Native.Nat.{_+_, _-_, _*_, _%_, _≤_}
 use Rattle.field.proofs.Primitive.{Degree-bounds}

@@ -1,5 +1,5 @@
-use native.Mathlib.Omega.{arith}
 -- `syndrome::columns::value_by_columns` meets its contract: Horner's rule over the four strips.
+use native.Mathlib.Omega.{arith}
 use Rattle.syndrome.proofs.Lanes.{lane-0, lane-1, lane-2, lane-3}
 use Rattle.syndrome.proofs.Horner.{strip-lt, sum-lt, valued}
 use borrow.Author.Needs.{needs}

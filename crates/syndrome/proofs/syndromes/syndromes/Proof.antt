@@ -1,6 +1,6 @@
+-- `syndrome::syndromes::syndromes` meets its contract: num is the register, at its place, and the syndromes before are written.
 use borrow.Author.Needs.{needs}
 use native.Mathlib.Omega.{arith}
--- `syndrome::syndromes::syndromes` meets its contract: num is the register, at its place, and the syndromes before are written.
 use mathlib.Core.Path.{_≡_, refl}
 use Prim.Native.Nat.{_-_, _≤_}
 use lib.ListN.{length, length-set}

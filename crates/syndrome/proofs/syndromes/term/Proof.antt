@@ -1,4 +1,4 @@
--- `syndrome::syndromes::term` meets its contract.
+-- `syndrome::syndromes::term` meets its contract: by the register's lowest digit.
 use Rattle.syndrome.proofs.Terms.{term-one, term-none}
 use Rattle.syndrome.proofs.syndromes.term.Statement.{statement}
 use Rattle.syndrome.proofs.syndromes.term.Tie as tie

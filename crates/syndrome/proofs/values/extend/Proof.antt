@@ -1,10 +1,10 @@
-use native.Mathlib.Omega.{arith}
 -- `syndrome::values::extend` meets its contract: the cosets of the first k representatives hold their values.
+use native.Mathlib.Omega.{arith}
 use mathlib.Core.Path.{_≡_, refl}
 use Prim.Native.Nat.{_-_, _≤_}
 use lib.ListN.{length}
 use Rattle.syndrome.specs.Value.{Extendable}
-use Rattle.syndrome.proofs.Extending.{Extending, extending-start, extending-more, extending-end, spreadable}
+use Rattle.syndrome.proofs.Extending.{Extending, extending-start, extending-more, extending-end, conjugable}
 use Rattle.syndrome.proofs.values.extend.Statement.{statement}
 use Rattle.syndrome.proofs.values.extend.Tie as tie
 use Rattle.syndrome.proofs.values.extend.Reads as reads
@@ -36,7 +36,7 @@ slice-read-v : tie.Need-slice-read-v Inv-loop μ-loop
 slice-read-v c = let v = c .before .before .before .loop .inv in omega (arith, v .0 .setting .below (c .before .before .before .loop .k) (omega (arith, v .1)), v .0 .long, v .3)
 
 conjugates-requires : tie.Need-conjugates-requires Inv-loop μ-loop
-conjugates-requires c κs = let v = c .before .before .before .before .loop .inv in spreadable (v .0) (v .4) (omega (arith, v .1)) refl refl (v .3)
+conjugates-requires c κs = let v = c .before .before .before .before .loop .inv in conjugable (v .0) (v .4) (omega (arith, v .1)) refl refl (v .3)
 
 loop-less : tie.Need-loop-less Inv-loop μ-loop
 loop-less c = omega arith

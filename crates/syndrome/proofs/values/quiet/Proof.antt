@@ -1,4 +1,4 @@
--- `syndrome::values::quiet` meets its contract.
+-- `syndrome::values::quiet` meets its contract: by cases of v.
 use Rattle.syndrome.proofs.Computing.{quiet-zero, quiet-other}
 use Rattle.syndrome.proofs.values.quiet.Statement.{statement}
 use Rattle.syndrome.proofs.values.quiet.Tie as tie

@@ -1,7 +1,11 @@
 // 10,000 words of length 127 with 10 errors each are decoded, and each answer is held to the codeword that the errors hit: the
 // run whose duration tools/bench records.
-mod channel;
+
+// messages and places of errors
 mod draw;
+
+// what the channel does to a word
+mod channel;
 
 ghost use Prim.Native.Nat.{_≤_};
 use channel::add_errors;

@@ -2,6 +2,7 @@
 --
 --   accepted-length     n is odd, and s at most 12
 --   certificate-sound   every certificate on the sheet meets rules 1 to 4; working-sound: so does the working one
+--   SheetCodeword       a codeword of the sheet's code
 --   sheet-distance      any two different codewords differ in at least d places, d of any certificate on it
 --   sheet-unique        at most one codeword lies within t places of a word, t the sheet's
 --   sheet-found, sheet-some, sheet-none      `nearestMessage` finds it, or there is none

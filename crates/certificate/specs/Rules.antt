@@ -2,7 +2,7 @@
 --
 --   certificateAs, Fits      a certificate of the code as one of the definitions, and its bounds
 --   Walkable, Ruled    what the walk over the terms needs, and says
---   checkedAs          what a certificate's check means in the paper's numbers
+--   checkedAs, distanceIn      what a certificate's check means in the paper's numbers, and the distance in it
 --   checkOf, Checkable      what the check of one certificate says, and needs
 use mathlib.Core.Path.{_≡_}
 use mathlib.Core.Bool.{Bool, not}

@@ -1,7 +1,7 @@
 -- The parts of correcting a word, joined.
 --
 --   setting, computable, extendable, walkable, comparable, solvable, search      what each part needs of what was there before
---   stop-fits, stop-word, f-small, lower-enough      t u is at most L and fits a word, f is below 2^16, and b has L places
+--   stop-fits, stop-word, f-small, lower-enough      t u is at most L and fits a word, f is below 2^16, and the lower row has L places
 --   chosen-lower, chosen-upper, chosen-solved      the slice that holds the locator
 --   passed-many, passed-yes, passed-no      the exits of the last test
 --   corrected-clean      a codeword stays as it is

@@ -1,5 +1,6 @@
 -- What the code computes as syndromes are the theory's.
 --
+--   Known, known         what `evaluate` and `extend` leave: the word's values on D
 --   syndromes-small      they are elements of the field
 --   received             as a series they are what the theory says of a received word
 use mathlib.Core.Path.{_≡_, sym, ap, _∙_, subst}

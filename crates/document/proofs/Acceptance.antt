@@ -3,8 +3,8 @@
 --   judge-number, judge-le      the number of a sheet's answer is that of its first condition, at most 10
 --   quiet-first, quiet-of      no condition of a quiet list holds, and back
 --   accepted-iff         a sheet is accepted exactly when no condition 1 to 10 holds
---   refused-first        a refusal is the number of a condition that holds, and none before it does
---   accepted-rules       that is, none of 1 to 6 does, and every certificate meets rules 1 to 4
+--   Drawn, refused-first      a refusal is the number of a condition that holds, and none before it does
+--   Rules, accepted-rules     that is, none of 1 to 6 does, and every certificate meets rules 1 to 4
 --   accepted-record      and then judging returns the record, with the working certificate's distance
 --   certificate-iff      a certificate draws none of 7 to 10 exactly when it meets rules 1 to 4
 use mathlib.Core.Path.{_≡_, refl, sym, ap, _∙_, subst}

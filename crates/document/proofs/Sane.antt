@@ -1,7 +1,7 @@
 -- Laws that a wrong definition would break.
 --
 --   distance-pos        a distance is at least 1
---   radius-most         the t of every certificate on the sheet is at most the sheet's t
+--   working-most, radius-most      the working certificate has the largest t: that of every other on the sheet is at most the sheet's t
 --   (that D is closed under doubling is set-doubles of Cosets.antt)
 --   set-size            D has n - k members
 --   poly-length, poly-top      the generator has degree n - k: n - k + 1 coefficients, the highest of them 1

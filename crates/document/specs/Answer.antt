@@ -1,6 +1,7 @@
 -- Answers by the paper's numbers, and what each case of an enum means in them.
 --
 --   Answer                 a number, and values: 0 and what is returned, or a refusal's number and nothing
+--   returned, refused      the two kinds of answer; Conditions: conditions with the numbers of their refusals, in order
 --   firstOf conditions     the number of the first condition that holds; 0 if none does
 --   settle                 what an entry answers, and what it leaves in the lent buffer
 --   numberOf               a refusal's number

@@ -1,9 +1,11 @@
 -- The entries: from all that an entry is handed to its answer, and what the lent buffer holds afterwards.
 --
 --   generatorOf, radiusOf      the generator and t of the sheet's code
---   encodeOf sheet message out
---   readOf sheet word out
---   decodeOf sheet word out
+--   wrongSize            11: a buffer hasn't its exact length
+--   encodedWord, wordOf  the codeword of a message, and a word in bytes, as masks
+--   nearestMessage, decodedWord      the codeword within t places of a word, by its message
+--   encodeConditions, readConditions, decodeConditions      11 to 14, in document 01's order, after the sheet's own
+--   encodeOf sheet message out, readOf sheet word out, decodeOf sheet word out      answer, and bytes
 -- "Every operation on messages and words is handed the sheet's bytes as well and judges the sheet first." "Then come 11
 -- (input, then output), 12, and last 13 or 14."
 use mathlib.Core.Bool.{Bool, not}

@@ -3,6 +3,7 @@
 --   xpow s p k       x^k modulo p
 --   Primitive s p    p has degree s, and x has order 2^s - 1 modulo p
 --   isPrimitive      the test; isPrimitive-sound: what it shows
+--   all-primitive    the test over the whole table
 --   primitive        the rule: so is the table's mask of each degree
 --   Degree-bounds    4 ≤ 2^s ≤ 4096
 use mathlib.Core.Path.{_≡_, ap, _∙_, sym, subst}

@@ -1,10 +1,20 @@
 // Figures of the field of 2^s elements for every degree: products, powers, logarithms, inverses, the table of
 // polynomials and the order of 2. tools/field_figures.py makes the same figures with none of this code.
+
+// the checksum of a row of values
 mod checksum;
-mod elements;
-mod lines;
+
+// products by shifts and by tables
 mod products;
+
+// powers, logarithms and inverses
+mod elements;
+
+// primitive polynomials, by a walk
 mod walk;
+
+// the lines of figures
+mod lines;
 
 fn main() {
     product_lines();

@@ -1,6 +1,6 @@
 -- What the inner functions of judging pass to each other. No entry's contract cites this file.
 --
---   bestOf, weighedAs, weighOf, Weighable      what the weighing of all certificates says, and needs
+--   chosen, bestOf, weighedAs, weighOf, Weighable      what the weighing of all certificates says, and needs
 --   Recordable, Judgeable      what the record needs, and what refusals 5 to 10 need
 use mathlib.Core.Path.{_≡_}
 use mathlib.Core.Bool.{Bool, true, false}

@@ -1,6 +1,7 @@
 -- What the parts of a sheet pass to each other. No entry's contract cites this file.
 --
 --   Headed sheet       what the header of a sheet that draws none of 1 to 4 satisfies
+--   bit, isBelow       1 or 0 for true or false, and for a comparison
 --   Marks n reps z     z holds 1 at each member of D, else 0
 --   Marked n r z z′ low      z′ is z with the coset of r marked; low is 0 exactly where r is its smallest
 --   SetMarked sheet z wrong      whether refusal 5 is drawn; where it is not, z marks D

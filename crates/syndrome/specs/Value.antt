@@ -1,10 +1,11 @@
 -- What a word's values pass on. No entry's contract cites this file.
 --
 --   valueOf n s c i         the value of c at α^i
+--   HeldAt n s c reps val   val holds the values of c at the representatives
 --   Evaluable n s reps e    representatives, and the powers of ω
 --   Computable, Computed    the values at the representatives: what they need, and leave
---   ValuesTested                  whether a word is a codeword, by these values
---   Conjugable, Conjugated      values along a coset: what it needs, and leaves
+--   ValuesTested            whether a word is a codeword, by these values
+--   Conjugable, Conjugated  values along a coset: what it needs, and leaves
 --   Extendable, Extended    the same for all of D
 --   Comparable, Compared    whether a word is a codeword with listed places changed, by their values at the representatives
 use mathlib.Core.Path.{_≡_}

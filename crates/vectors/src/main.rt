@@ -1,10 +1,18 @@
 // Calls of the entries from standard input, and for each what it answers. A call is four bytes, its kind, the lengths of sheet and
 // input, and the length of the buffer lent or of the words; then sheet and input. Kinds: 0 judge and card, 1 encode, 2 read,
 // 3 decode, 4 decode with every word of a length. tools/answers.py makes the calls, and the same answers with none of this code.
-mod every;
+
+// what lines are made of
 mod line;
+
+// lines about sheets
 mod sheets;
+
+// the line about one message or word
 mod words;
+
+// the line about all words of a length
+mod every;
 
 use crate::line::wide;
 use libc::STDIN_FILENO;

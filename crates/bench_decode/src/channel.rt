@@ -17,9 +17,10 @@ fn wide(x: u8) -> usize {
     x as usize
 }
 
-pub fn same(a: &[u8; 16], b: &[u8; 16]) -> bool {
+// Whether two words are the same.
+pub fn same(word: &[u8; 16], other: &[u8; 16]) -> bool {
     for i in 0..16usize {
-        if a[i] != b[i] {
+        if word[i] != other[i] {
             return false;
         }
     }

@@ -1,5 +1,5 @@
 // Polynomials over two elements in slices of 0 and 1, low coefficient first: sums, long division and products in place.
-ghost use Prim.Native.Nat.{_+_, _≤_, _<_};
+ghost use Prim.Native.Nat.{_+_, _<_, _≤_};
 ghost use lib.ListN.{length};
 ghost use Rattle.binary.specs.Bits.{AddedAt, Summed, Divided, Multiplied, Moved, Any};
 

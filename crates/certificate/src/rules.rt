@@ -2,9 +2,9 @@
 ghost use mathlib.Core.Path.{_≡_};
 ghost use mathlib.Core.Bool.{not};
 ghost use Prim.Native.Nat.{_+_, _*_, _/_, _%_, _<_, _≤_};
-ghost use Rattle.certificate.specs.Rules.{Walkable, Ruled, certificateAs};
-ghost use Rattle.binary.specs.Factor.{coprime, period, Modulus};
 ghost use Rattle.field.specs.Mask.{_⊕_};
+ghost use Rattle.binary.specs.Factor.{coprime, period, Modulus};
+ghost use Rattle.certificate.specs.Rules.{Walkable, Ruled, certificateAs};
 use crate::types::Certificate;
 
 // The register of h/f after one term: its lowest coefficient is the term, and f times it is taken off before the shift.

@@ -1,6 +1,6 @@
 // Codewords and messages written into bytes.
 ghost use mathlib.Core.Path.{_≡_};
-ghost use Prim.Native.Nat.{_+_, _≤_, _<_};
+ghost use Prim.Native.Nat.{_+_, _<_, _≤_};
 ghost use lib.ListN.{length};
 ghost use Rattle.document.specs.Layout.{wordWeight, bytesFor, bytesOf};
 ghost use Rattle.document.specs.Entry.{encodedWord};

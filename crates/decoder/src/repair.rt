@@ -5,6 +5,7 @@ ghost use Rattle.decoder.specs.Repair.{Repairable, Repaired};
 use codeword::layout::set_word_place;
 use codeword::layout::word_place;
 
+// Bytes copied.
 pub fn copy(from: &[u8], to: &mut [u8])
     requires { ⌜ length (now to) ≡ length (now from) ⌝ }
     ensures { λ _. ⌜ now (to .exit) ≡ now (from .entry) ⌝ }

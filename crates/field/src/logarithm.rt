@@ -1,6 +1,6 @@
 // Products, inverses and quotients by the tables: a product is one sum of logarithms.
 ghost use mathlib.Core.Path.{_≡_};
-ghost use Prim.Native.Nat.{_^_, _<_, _-_, _*_, _≤_};
+ghost use Prim.Native.Nat.{_-_, _*_, _^_, _<_, _≤_};
 ghost use Rattle.field.specs.Field.{fieldMultiply, logarithm, inverses, quotients, valuesOf, ω, fieldPower};
 ghost use Rattle.field.specs.Tables.{Tables};
 use crate::product::order;

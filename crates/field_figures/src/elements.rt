@@ -1,7 +1,7 @@
 // Checksums over the elements of a degree: powers of 2, logarithms, inverses.
+ghost use mathlib.Core.Path.{_≡_};
 ghost use Prim.Native.Nat.{_-_, _^_, _<_, _≤_};
 ghost use lib.ListN.{length};
-ghost use mathlib.Core.Path.{_≡_};
 ghost use Rattle.field.specs.Field.{Degree, orderOfTwo};
 ghost use Rattle.field.specs.Tables.{Tables};
 use crate::checksum::add;

@@ -2,7 +2,7 @@
 // Slices have the low coefficient first, and 0 above the degree.
 ghost use mathlib.Core.Path.{_≡_};
 ghost use mathlib.Core.List.{[]};
-ghost use Prim.Native.Nat.{_+_, _≤_, _<_};
+ghost use Prim.Native.Nat.{_+_, _<_, _≤_};
 ghost use lib.ListN.{length};
 ghost use Rattle.field.specs.Field.{α};
 ghost use Rattle.generator.specs.Coefficients.{CosetWalk, Unit, CosetWalked};

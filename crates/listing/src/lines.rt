@@ -1,9 +1,9 @@
 // The lines of the listing, by the numbers that stand in them.
 ghost use Prim.Native.Nat.{_+_, _*_, _<_, _≤_};
 ghost use lib.ListN.{length};
+ghost use Rattle.document.specs.Card.{codeText, certificateText, radiusText};
 ghost use Rattle.codeword.specs.Place.{Binary};
 ghost use Rattle.listing.specs.Wrote.{Wrote};
-ghost use Rattle.document.specs.Card.{codeText, certificateText, radiusText};
 ghost use Rattle.listing.specs.Text.{zerosText, generatorText};
 use crate::piece::put;
 use crate::piece::put_field;

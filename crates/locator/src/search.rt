@@ -1,10 +1,10 @@
 // Every place searched, and those listed at which the remainder of a locator by f vanishes: Chien's search, four places at a time, for
 // f = 1 + x, and one in lanes for f of any degree.
-ghost use Prim.Native.Nat.{_<_, _≤_, _+_, _-_, _^_};
-ghost use lib.ListN.{length};
-ghost use Rattle.locator.specs.Locate.{Noted, NotedBelow, hits, Found};
 ghost use mathlib.Core.Path.{_≡_};
+ghost use Prim.Native.Nat.{_+_, _-_, _^_, _<_, _≤_};
+ghost use lib.ListN.{length};
 ghost use Rattle.field.specs.Tables.{Powered};
+ghost use Rattle.locator.specs.Locate.{Noted, NotedBelow, hits, Found};
 ghost use Rattle.locator.specs.Terms.{aloneAt, Logged, vanishes as vanishesOf, Searchable, vanishesAlone};
 use crate::types::Four;
 use field::exponent::index;
@@ -31,6 +31,7 @@ pub fn note_below(n: usize, hit: bool, places: &mut [u8], c: usize, i: usize) ->
     0
 }
 
+// The sums of the terms at four neighbouring places, for f = 1 + x: the exponents at each are one step on from those at the one before.
 pub fn four(
     constant: u16,
     exponents: &[u16],
@@ -68,7 +69,8 @@ pub fn four(
     }
 }
 
-// For any f: a lane of two words for each coefficient, and so one load and two products a term.
+// Whether all coefficients of the remainder vanish at place i, for any f: a lane of two words for each coefficient, and so one load
+// and two products a term.
 pub fn lanes_vanish(
     first: u16,
     exponents: &[u16],

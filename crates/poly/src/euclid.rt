@@ -5,7 +5,8 @@ use crate::row::length_of;
 use crate::types::LocatorRow;
 
 // Euclid's algorithm on x^l, above, and what the lower slice holds, until a remainder has at most `stop` coefficients: its cofactor
-// is what is asked for, and the locator up to a constant factor where at most t places are wrong. The rows take turns, so that nothing is copied.
+// is what is asked for, and the locator up to a constant factor where at most t places are wrong. The rows take turns, so that
+// nothing is copied.
 pub fn euclid(
     s: usize,
     upper: &mut [u16],

@@ -3,8 +3,8 @@
 ghost use mathlib.Core.Path.{_≡_};
 ghost use Prim.Native.Nat.{_<_, _≤_};
 ghost use lib.ListN.{length};
-ghost use Rattle.syndrome.specs.Columns.{column as columnOf, Columnable, Columned, Summable, Strips, Valued};
 ghost use Rattle.field.specs.Tables.{Tables};
+ghost use Rattle.syndrome.specs.Columns.{column as columnOf, Columnable, Columned, Summable, Strips, Valued};
 use field::exponent::index;
 use field::logarithm::scaled;
 

@@ -1,9 +1,9 @@
 // A word's values at the powers of α: at the representatives, and from there along their cosets, since the value at a square is the
 // square of the value.
-ghost use Rattle.syndrome.specs.Value.{Conjugable, Conjugated, Computable, Computed, ValuesTested, Extendable, Extended};
 ghost use mathlib.Core.Path.{_≡_};
 ghost use mathlib.Core.Bool.{_&&_};
 ghost use lib.Dec.{eqb};
+ghost use Rattle.syndrome.specs.Value.{Conjugable, Conjugated, Computable, Computed, ValuesTested, Extendable, Extended};
 use crate::columns::fill_columns;
 use crate::columns::value_by_columns;
 use field::logarithm::multiply;

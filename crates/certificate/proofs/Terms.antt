@@ -1,7 +1,6 @@
 -- The walk over a certificate's terms: rule 4 by the register of h/f.
 --
 --   register-set, register-clear      one step of the register
---   step-low, step-high               one step of the place
 --   At n c j num at                   register and place after j terms: at-start, at-more, num-lt, f-fits, at-lt
 --   Going, going-start, going-more, going-wrong, going-end      the walk
 use mathlib.Core.Path.{_≡_, refl, sym, ap, ap₂, _∙_, subst}
@@ -9,7 +8,7 @@ use mathlib.Core.Logic.{_≢_}
 use mathlib.Core.Bool.{Bool, true, false, not, _||_}
 use mathlib.Core.List.{List}
 use Prim.Native.Nat.{ℕ, suc, _+_, _-_, _*_, _/_, _%_, _^_, _≤_, _<_}
-use native.Mathlib.Nat.{mod-lt, mod-eq-of-lt, mod-eq-sub-mod, mod-add-mod, zero-mul, one-mul, add-zero, add-assoc, suc-mul}
+use native.Mathlib.Nat.{mod-lt, mod-eq-of-lt, mod-add-mod, zero-mul, one-mul, add-zero, add-assoc, suc-mul}
 use native.Mathlib.Decide.{ℕ-discrete}
 use native.Mathlib.Numerals.{add-one}
 use native.Mathlib.Omega.{arith}
@@ -27,7 +26,8 @@ use Rattle.binary.proofs.Series.{register, register-z, register-s, register-lt,
 use Rattle.certificate.specs.declared.types.Certificate.{Certificate as CodeCertificate}
 use Rattle.document.specs.Coset.{inSet}
 use Rattle.document.specs.Certificate.{rule4}
-use Rattle.sheet.specs.Stage.{Marks, bit}
+use Rattle.field.specs.Search.{bit}
+use Rattle.sheet.specs.Stage.{Marks}
 use Rattle.certificate.specs.Rules.{Walkable, Ruled, certificateAs}
 
 pub register-set : (f x : ℕ) → x % 2 ≡ 1 → bitXor x f / 2 ≡ (x ⊕ (x % 2) * f) / 2
@@ -38,12 +38,6 @@ pub register-clear : (f x : ℕ) → x % 2 ≢ 1 → x / 2 ≡ (x ⊕ (x % 2) * 
 register-clear f x n =
     let z : x % 2 ≡ 0 = omega arith in
     sym (ap (λ (y : ℕ). y / 2) (ap (λ (d : ℕ). x ⊕ d * f) z ∙ ap (λ (y : ℕ). x ⊕ y) (zero-mul f) ∙ ⊕-zero-r x))
-
-pub step-low : (n x : ℕ) → x < n → x ≡ x % n
-step-low n x h = sym (mod-eq-of-lt h)
-
-pub step-high : (n a z : ℕ) → a < n → z < n → n ≤ a + z → a + z - n ≡ (a + z) % n
-step-high n a z h l m = sym (mod-eq-sub-mod m ∙ mod-eq-of-lt (omega arith))
 
 -- the register and the place after j terms
 pub record At (n : ℕ) (c : CodeCertificate) (j num at : ℕ) : Type 0 where

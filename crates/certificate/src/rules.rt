@@ -1,11 +1,12 @@
 // Rules 3 and 4: the period of f, and the terms of h/f walked by a shift register.
 ghost use mathlib.Core.Path.{_≡_};
 ghost use mathlib.Core.Bool.{not};
-ghost use Prim.Native.Nat.{_+_, _*_, _/_, _%_, _<_, _≤_};
+ghost use Prim.Native.Nat.{_+_, _*_, _/_, _%_, _<_};
 ghost use Rattle.field.specs.Mask.{_⊕_};
 ghost use Rattle.binary.specs.Factor.{coprime, period, Modulus};
 ghost use Rattle.certificate.specs.Rules.{Walkable, Ruled, certificateAs};
 use crate::types::Certificate;
+use field::order::step;
 
 // The register of h/f after one term: its lowest coefficient is the term, and f times it is taken off before the shift.
 pub fn next_register(f: usize, num: usize) -> usize
@@ -13,15 +14,6 @@ pub fn next_register(f: usize, num: usize) -> usize
     ensures { λ r. ⌜ r ≡ (num ⊕ (num % 2) * f) / 2 ⌝ }
 {
     if num % 2 == 1 { (num ^ f) / 2 } else { num / 2 }
-}
-
-// (at + z) mod n, with no division.
-pub fn step(n: usize, at: usize, z: usize) -> usize
-    requires { ⌜ (at < n) × (z < n) × (n ≤ 65535) ⌝ }
-    ensures { λ r. ⌜ r ≡ (at + z) % n ⌝ }
-{
-    let next = at + z;
-    if next < n { next } else { next - n }
 }
 
 // Refusal 10: a term that is 1 at a place that is not in D.

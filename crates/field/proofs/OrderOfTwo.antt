@@ -4,7 +4,8 @@
 --   halves          n odd: doubles are equal modulo n only where the numbers are
 --   one-iff         2^k leaves 1 exactly when n divides 2^k - 1
 --   order-pos, order-divides, order-mod, order-least, order-lt      n divides 2^s - 1 for s = orderOfTwo n, for no smaller s above 0, and s < n
---   count-start, count-on, count-more, count-lt, count-end, twice-low, twice-high      the count of the code
+--   count-start, count-on, count-more, count-lt, count-end      the count of the code
+--   step-low, step-high, twice-high      a sum, and a double, by one subtraction
 use mathlib.Core.Path.{_≡_, refl, sym, ap, _∙_, subst}
 use mathlib.Core.Logic.{_≢_, _↔_}
 use mathlib.Core.Bool.{Bool}
@@ -160,8 +161,11 @@ unfolding orderOfTwo
 order-pos n = omega arith
 
 -- 2 x modulo n by one comparison
-pub twice-low : (n x : ℕ) → x * 2 < n → x * 2 ≡ x * 2 % n
-twice-low n x h = sym (mod-eq-of-lt h)
+pub step-low : (n x : ℕ) → x < n → x ≡ x % n
+step-low n x h = sym (mod-eq-of-lt h)
+
+pub step-high : (n a z : ℕ) → a < n → z < n → n ≤ a + z → a + z - n ≡ (a + z) % n
+step-high n a z h l m = sym (mod-eq-sub-mod m ∙ mod-eq-of-lt (omega arith))
 
 pub twice-high : (n x : ℕ) → x < n → n ≤ x * 2 → x * 2 - n ≡ x * 2 % n
 twice-high n x h l = sym (mod-eq-sub-mod l ∙ mod-eq-of-lt (omega arith))

@@ -4,6 +4,7 @@
 --   upTo n           the numbers below n, rising
 --   keep test l      those of l that pass the test, in their order
 --   total n term     the sum of term i over i below n
+--   bit b            1 where b is true, else 0
 --   some test l      whether one of l passes the test; every test l: whether all do
 use mathlib.Core.Bool.{Bool, true, false, _&&_, _||_}
 use mathlib.Core.List.{List, [], _∷_, _++_}
@@ -36,3 +37,7 @@ every test (x ∷ l) = test x && every test l
 unfoldable pub total : ℕ → (ℕ → ℕ) → ℕ
 total zero term = 0
 total (suc n) term = total n term + term n
+
+abbrev pub bit : Bool → ℕ
+bit true = 1
+bit false = 0

@@ -1,6 +1,6 @@
-// The degree of the field that holds the n-th roots of 1.
+// Steps modulo a length, and the degree of the field that holds the n-th roots of 1.
 ghost use mathlib.Core.Path.{_≡_};
-ghost use Prim.Native.Nat.{_*_, _%_, _<_};
+ghost use Prim.Native.Nat.{_+_, _*_, _%_, _<_, _≤_};
 ghost use Rattle.field.specs.Field.{OddLength, orderOfTwo};
 
 // 2 x modulo n, with no division.
@@ -10,6 +10,15 @@ pub fn twice(n: usize, x: usize) -> usize
 {
     let d = x * 2;
     if d < n { d } else { d - n }
+}
+
+// (at + z) mod n, with no division.
+pub fn step(n: usize, at: usize, z: usize) -> usize
+    requires { ⌜ (at < n) × (z < n) × (n ≤ 65535) ⌝ }
+    ensures { λ r. ⌜ r ≡ (at + z) % n ⌝ }
+{
+    let next = at + z;
+    if next < n { next } else { next - n }
 }
 
 // s for a length n: x goes through 2, 4, 8, .. modulo n, and s counts, until x is 1.

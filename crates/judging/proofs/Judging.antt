@@ -16,7 +16,7 @@ use native.Mathlib.Decide.{decLt}
 use native.Mathlib.Omega.{arith}
 use lib.ListN.{length, getD, replicate, length-append, length-replicate, getD-replicate}
 use borrow.Author.Tests.{eq-eqb, ne-eqb}
-use Rattle.field.specs.Search.{upTo, keep, some, total}
+use Rattle.field.specs.Search.{upTo, keep, some, total, bit}
 use Rattle.field.specs.Field.{OddLength, orderOfTwo}
 use Rattle.field.proofs.Search.{true-ne-false, keep-suc, length-upTo, length-keep, total-z, total-s, total-ext}
 use Rattle.judging.specs.declared.types.Best.{Best}
@@ -29,7 +29,7 @@ use Rattle.document.specs.Judge.{wrongLength, wrongCodeLength, wrongDegree, wro
 use Rattle.document.specs.Judge.{sheetConditions, certificateConditions, judgeConditions, dimensionOf, workingOf}
 use Rattle.document.specs.Judge.{workingCertificate}
 use Rattle.document.specs.Judge.{recordOf, judgeOf}
-use Rattle.sheet.specs.Stage.{Headed, Marks, bit}
+use Rattle.sheet.specs.Stage.{Headed, Marks}
 use Rattle.judging.specs.Weigh.{Recordable, Judgeable, weighOf}
 use Rattle.sheet.proofs.Headed.{odd-length, length-1, headed}
 use Rattle.document.proofs.Sane.{settle-number, distance-pos, working-most}

@@ -10,7 +10,7 @@ use Prim.Native.Nat.{ℕ, zero, suc, _+_, _-_, _≤_}
 use native.Mathlib.Omega.{arith}
 use lib.ListN.{length, getD, take}
 use lib.Seq.{take-suc, take-length}
-use Rattle.field.specs.Search.{upTo, keep}
+use Rattle.field.specs.Search.{upTo, keep, bit}
 use Rattle.field.specs.Mask.{coefficient}
 use Rattle.field.proofs.Search.{keep-suc}
 use Rattle.document.specs.Coset.{inSet, definingSet, dimension}
@@ -19,7 +19,7 @@ use Rattle.document.specs.Card.{spaced}
 use Rattle.document.proofs.Sane.{poly-length}
 use Rattle.document.proofs.Theory.{Length}
 use Rattle.document.proofs.GeneratorIs.{generator-digit, generator-is}
-use Rattle.sheet.specs.Stage.{Marks, bit}
+use Rattle.sheet.specs.Stage.{Marks}
 use Rattle.binary.specs.Bits.{Holds}
 use Rattle.listing.specs.Text.{rows, member, memberIn, digitIn}
 

@@ -15,7 +15,7 @@ use native.Mathlib.Omega.{arith}
 use lib.ListN.{length, length-set}
 use Rattle.field.specs.Mask.{coefficient}
 use Rattle.cyclic.proofs.Places.{gather-at, gather-lt, count, count-z, count-s}
-use Rattle.sheet.specs.Stage.{bit}
+use Rattle.field.specs.Search.{bit}
 use Rattle.syndrome.specs.Sums.{Listed}
 use Rattle.syndrome.proofs.Listing.{listing-start, listing-more, listing-end}
 use Rattle.locator.specs.Locate.{Noted, NotedBelow, hits, Found}

@@ -16,7 +16,7 @@ use Rattle.field.proofs.OrderOfTwo.{order-divides}
 use Rattle.field.proofs.Elements.{GF, gen, root, root-order}
 use Rattle.cyclic.proofs.Lift.{lift}
 use Rattle.field.specs.Tables.{Tables}
-use Rattle.sheet.specs.Stage.{bit}
+use Rattle.field.specs.Search.{bit}
 use Rattle.syndrome.proofs.Roots.{root-lt}
 use Rattle.poly.specs.Slice.{series}
 use Rattle.locator.specs.Terms.{vanishes, TermsListable, TermsListed, vanishesAlone}

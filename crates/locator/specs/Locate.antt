@@ -22,7 +22,7 @@ use Rattle.cyclic.proofs.Lift.{lift}
 use Rattle.cyclic.proofs.Places.{gather, count}
 use Rattle.binary.specs.Factor.{Modulus}
 use Rattle.field.specs.Tables.{Tables}
-use Rattle.sheet.specs.Stage.{bit}
+use Rattle.field.specs.Search.{bit}
 use Rattle.syndrome.specs.Sums.{Listed}
 use Rattle.poly.specs.Slice.{series}
 use Rattle.locator.specs.Terms.{LocatorSlices}

@@ -4,7 +4,7 @@ ghost use mathlib.Core.Path.{_≡_};
 ghost use Prim.Native.Nat.{_<_, _≤_};
 ghost use Rattle.locator.specs.Terms.{lanes as lanesOf, TermsListable, TermsListed};
 use binary::period::times_x;
-use certificate::rules::step;
+use field::order::step;
 use field::product::order;
 
 // 1 where x is not 0.

@@ -17,13 +17,13 @@ use lib.Dec.{leb, ltb}
 use lib.ListN.{length, getD, take, drop, length-drop}
 use lib.Seq.{getD-take, getD-drop, take-suc, length-take-le, take-all}
 use borrow.Author.Tests.{lt-ltb, le-ltb, le-leb, lt-leb}
-use Rattle.field.specs.Search.{upTo, some}
+use Rattle.field.specs.Search.{upTo, some, bit}
 use Rattle.field.specs.Field.{OddLength, orderOfTwo}
 use Rattle.field.proofs.Search.{some-of, some-false, some-append}
 use Rattle.document.specs.Sheet.{byteAt, codeLength, representativeCount, representatives}
 use Rattle.document.specs.Coset.{inCoset, smallest, inSet}
 use Rattle.document.specs.Judge.{wrongRepresentative}
-use Rattle.sheet.specs.Stage.{Headed, Marks, Marked, SetMarked, bit}
+use Rattle.sheet.specs.Stage.{Headed, Marks, Marked, SetMarked}
 
 abbrev rep : List ℕ → ℕ → ℕ
 rep sheet i = getD (representatives sheet) i 0

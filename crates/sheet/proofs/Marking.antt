@@ -13,12 +13,12 @@ use lib.Dec.{eqb, leb}
 use lib.ListN.{length, getD, set}
 use lib.Seq.{getD-set-same, getD-set-other}
 use borrow.Author.Tests.{eqb-true, eqb-false, eq-eqb, ne-eqb, leb-true, le-leb, lt-leb, lt-ltb, le-ltb}
-use Rattle.field.specs.Search.{upTo, some, every}
+use Rattle.field.specs.Search.{upTo, some, every, bit}
 use Rattle.field.specs.Field.{OddLength, orderOfTwo}
 use Rattle.field.proofs.Search.{true-ne-false, some-at, some-of, some-suc, some-zero, every-at, every-of, every-suc, every-zero}
 use Rattle.document.specs.Coset.{inCoset, smallest}
 use Rattle.document.proofs.Cosets.{bool-eq, coset-at, coset-of, smallest-at, smallest-of}
-use Rattle.sheet.specs.Stage.{bit, isBelow, Marked}
+use Rattle.sheet.specs.Stage.{isBelow, Marked}
 
 abbrev met : ℕ → ℕ → ℕ → ℕ → Bool
 met n r j i = some (λ k. eqb (r * 2 ^ k % n) i) (upTo j)

@@ -1,7 +1,7 @@
 -- What the parts of a sheet pass to each other. No entry's contract cites this file.
 --
 --   Headed sheet       what the header of a sheet that draws none of 1 to 4 satisfies
---   bit, isBelow       1 or 0 for true or false, and for a comparison
+--   isBelow            1 or 0 for a comparison
 --   Marks n reps z     z holds 1 at each member of D, else 0
 --   Marked n r z z′ low      z′ is z with the coset of r marked; low is 0 exactly where r is its smallest
 --   SetMarked sheet z wrong      whether refusal 5 is drawn; where it is not, z marks D
@@ -11,6 +11,7 @@ use mathlib.Core.List.{List}
 use Prim.Native.Nat.{ℕ, _+_, _*_, _%_, _≤_, _<_}
 use lib.Dec.{ltb}
 use lib.ListN.{length, getD}
+use Rattle.field.specs.Search.{bit}
 use Rattle.field.specs.Field.{orderOfTwo}
 use Rattle.binary.specs.Factor.{degree}
 use Rattle.document.specs.Sheet.{codeLength, representativeCount, representatives, certificateCount}
@@ -28,10 +29,6 @@ pub record Headed (sheet : List ℕ) : Type 0 where
   pub long : length sheet ≡ 10 + representativeCount sheet + 8 * certificateCount sheet
 
 -- 1 or 0
-abbrev pub bit : Bool → ℕ
-bit true = 1
-bit false = 0
-
 pub record Marks (n : ℕ) (reps z : List ℕ) : Type 0 where
   pub long : n ≤ length z
   pub at : (i : ℕ) → i < n → getD z i 0 ≡ bit (inSet n reps i)

@@ -5,8 +5,8 @@ ghost use lib.ListN.{length};
 ghost use Rattle.certificate.specs.Rules.{Walkable, certificateAs};
 ghost use Rattle.syndrome.specs.Series.{SyndromesOf};
 use certificate::rules::next_register;
-use certificate::rules::step;
 use certificate::types::Certificate;
+use field::order::step;
 
 // y where the register's term is 1, else 0.
 fn term(num: usize, y: u16) -> u16

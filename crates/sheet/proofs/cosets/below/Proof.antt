@@ -2,7 +2,7 @@
 use native.Mathlib.Omega.{arith}
 use mathlib.Core.Path.{sym, ap}
 use borrow.Author.Tests.{lt-ltb, le-ltb}
-use Rattle.sheet.specs.Stage.{bit}
+use Rattle.field.specs.Search.{bit}
 use Rattle.sheet.proofs.cosets.below.Statement.{statement}
 use Rattle.sheet.proofs.cosets.below.Tie as tie
 

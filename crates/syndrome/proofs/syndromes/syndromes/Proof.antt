@@ -12,7 +12,7 @@ use Rattle.syndrome.proofs.syndromes.syndromes.Tie as tie
 use Rattle.syndrome.proofs.syndromes.syndromes.Reads as reads
 use Rattle.syndrome.proofs.syndromes.syndromes.Lts as lts
 use Rattle.certificate.proofs.rules.next_register.Reads as next-register-reads
-use Rattle.certificate.proofs.rules.step.Reads as step-reads
+use Rattle.field.proofs.order.step.Reads as step-reads
 use Rattle.syndrome.proofs.syndromes.term.Reads as term-reads
 
 abbrev Inv-loop : tie.InvT-loop

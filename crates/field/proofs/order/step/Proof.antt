@@ -1,8 +1,8 @@
--- `certificate::rules::step` meets its contract: both are below n, so one subtraction is enough.
-use Rattle.certificate.proofs.Terms.{step-low, step-high}
+-- `field::order::step` meets its contract: both are below n, so one subtraction is enough.
+use Rattle.field.proofs.OrderOfTwo.{step-low, step-high}
 use borrow.Author.Needs.{needs}
-use Rattle.certificate.proofs.rules.step.Statement.{statement}
-use Rattle.certificate.proofs.rules.step.Tie as tie
+use Rattle.field.proofs.order.step.Statement.{statement}
+use Rattle.field.proofs.order.step.Tie as tie
 
 add-next : tie.Need-add-next
 add-next c = search needs

@@ -1,8 +1,7 @@
 -- One certificate against its four rules, with the code's locals.
 --
 --   check-7 .. check-10, check-pass      one law for each exit of the check
---   ratio-of, modulus-of, walkable-ranged, walkable-of    what rule 1 gives the functions that test the others
---   lengths                     n is 3 to 127
+--   ratio-of, modulus-of, walkable-of      what rule 1 gives the functions that test the others
 --   distance-is                 the distance by the code's sum
 use mathlib.Core.Path.{_≡_, refl, sym, ap, ap₂, _∙_}
 use mathlib.Core.Logic.{_≢_}
@@ -15,12 +14,13 @@ use lib.ListN.{length}
 use lib.Pow.{pow-mono}
 use Rattle.binary.specs.Factor.{coprime, degree, common, period, Modulus, Ratio}
 use Rattle.binary.proofs.Degree.{degree-low, degree-high, degree-eq}
-use Rattle.certificate.specs.declared.types.Certificate.{Certificate as CodeCertificate}
+use Rattle.sheet.specs.declared.types.Certificate.{Certificate as CodeCertificate}
 use Rattle.document.specs.Answer.{Answer, returned, refused, firstOf, settle}
-use Rattle.document.specs.Sheet.{representatives, Certificate, certificate}
+use Rattle.document.specs.Sheet.{Certificate}
 use Rattle.document.specs.Certificate.{rule1, rule2, rule3, rule4, distance}
 use Rattle.document.specs.Judge.{certificateConditions}
-use Rattle.certificate.specs.Rules.{Walkable, Ruled, Checkable, certificateAs, checkOf}
+use Rattle.sheet.specs.Stage.{certificateAs}
+use Rattle.certificate.specs.Rules.{Walkable, Ruled, CheckedBy, checkOf}
 use Rattle.certificate.proofs.Ranges.{Ranged}
 
 -- the answer by the four conditions
@@ -49,45 +49,42 @@ unfolding firstOf settle
 miss a b c d v e f g h =
     ap₂ (λ z w. four false false z w v) (sym g) (sym h) ∙ ap₂ (λ x y. four x y c d v) (sym e) (sym f)
 
-module _ {sheet : List ℕ} {n reps i : ℕ} {z : List ℕ} (w : Checkable sheet n reps i z) {k : Certificate}
-    (e : k ≡ certificate sheet i) where
-  check-is : checkOf sheet i
-      ≡ four (not (rule1 n k)) (not (rule2 k)) (not (rule3 n k)) (not (rule4 n (representatives sheet) k)) (distance k ∷ [])
+module _ (most n : ℕ) (k : Certificate) (z : List ℕ) where
+  check-is : (reps : List ℕ) → checkOf most n reps k
+      ≡ four (not (rule1 most n k)) (not (rule2 k)) (not (rule3 n k)) (not (rule4 n reps k)) (distance k ∷ [])
   unfolding checkOf certificateConditions
-  check-is =
-      ap₂ (λ (m : ℕ) (c : Certificate). four (not (rule1 m c)) (not (rule2 c)) (not (rule3 m c)) (not (rule4 m (representatives sheet) c)) (distance c ∷ []))
-      (sym (w .n-is)) (sym e)
+  check-is reps = refl
 
   not-not : (b : Bool) → not (not b) ≡ b
   not-not true = refl
   not-not false = refl
 
-  pub check-7 : true ≡ not (rule1 n k) → refused 7 ≡ checkOf sheet i
-  check-7 a = hit-7 _ _ _ _ _ (sym a) ∙ sym check-is
+  pub check-7 : true ≡ not (rule1 most n k) → CheckedBy most n k z (refused 7)
+  check-7 a = record { is = λ reps m. hit-7 _ _ _ _ _ (sym a) ∙ sym (check-is reps) }
 
-  module _ (a : false ≡ not (rule1 n k)) where
-    pub check-8 : common (k .f) (k .h) ≡ true → refused 8 ≡ checkOf sheet i
+  module _ (a : false ≡ not (rule1 most n k)) where
+    pub check-8 : common (k .f) (k .h) ≡ true → CheckedBy most n k z (refused 8)
     unfolding rule2
-    check-8 b = hit-8 _ _ _ _ _ (sym a) (not-not (common (k .f) (k .h)) ∙ b) ∙ sym check-is
+    check-8 b = record { is = λ reps m. hit-8 _ _ _ _ _ (sym a) (not-not (common (k .f) (k .h)) ∙ b) ∙ sym (check-is reps) }
 
     module _ (b : common (k .f) (k .h) ≡ false) where
-      pub check-9 : true ≡ not (coprime (period (k .f)) n) → refused 9 ≡ checkOf sheet i
+      pub check-9 : true ≡ not (coprime (period (k .f)) n) → CheckedBy most n k z (refused 9)
       unfolding rule2 rule3
-      check-9 c = hit-9 _ _ _ _ _ (sym a) (not-not (common (k .f) (k .h)) ∙ b) (sym c) ∙ sym check-is
+      check-9 c = record { is = λ reps m. hit-9 _ _ _ _ _ (sym a) (not-not (common (k .f) (k .h)) ∙ b) (sym c) ∙ sym (check-is reps) }
 
       module _ (c : false ≡ not (coprime (period (k .f)) n)) where
-        pub check-10 : Ruled n k z true → refused 10 ≡ checkOf sheet i
+        pub check-10 : Ruled n k z true → CheckedBy most n k z (refused 10)
         unfolding rule2 rule3
-        check-10 d =
-            hit-10 _ _ _ _ _ (sym a) (not-not (common (k .f) (k .h)) ∙ b) (sym c) (sym (d .is (representatives sheet) (w .marks)))
-            ∙ sym check-is
+        check-10 d = record {
+          is = λ reps m. hit-10 _ _ _ _ _ (sym a) (not-not (common (k .f) (k .h)) ∙ b) (sym c) (sym (d .is reps m)) ∙ sym (check-is reps);
+        }
 
-        pub check-pass : Ruled n k z false → {x : ℕ} → x ≡ distance k → returned (x ∷ []) ≡ checkOf sheet i
+        pub check-pass : Ruled n k z false → {x : ℕ} → x ≡ distance k → CheckedBy most n k z (returned (x ∷ []))
         unfolding rule2 rule3
-        check-pass d q =
-            ap (λ (x : ℕ). returned (x ∷ [])) q
-            ∙ miss _ _ _ _ _ (sym a) (not-not (common (k .f) (k .h)) ∙ b) (sym c) (sym (d .is (representatives sheet) (w .marks)))
-            ∙ sym check-is
+        check-pass d q = record {
+          is = λ reps m. ap (λ (x : ℕ). returned (x ∷ [])) q
+              ∙ miss _ _ _ _ _ (sym a) (not-not (common (k .f) (k .h)) ∙ b) (sym c) (sym (d .is reps m)) ∙ sym (check-is reps);
+        }
 
 -- ---- what rule 1 gives
 module _ {n : ℕ} {c : CodeCertificate} (r : Ranged n (certificateAs c)) where
@@ -117,8 +114,8 @@ module _ {n : ℕ} {c : CodeCertificate} (r : Ranged n (certificateAs c)) where
   pub modulus-of : {u : ℕ} → u ≡ degree (c .f) → Modulus (c .f) u
   modulus-of e = record { is = e; lo = omega (arith, r .u-low); hi = omega (arith, r .u-high); odd = r .f-odd }
 
-  pub walkable-ranged : {z : List ℕ} → n ≤ 127 → n ≤ length z → Walkable n c z
-  walkable-ranged most long = record {
+  pub walkable-of : {z : List ℕ} → n ≤ 65535 → c .terms ≤ 65535 → n ≤ length z → Walkable n c z
+  walkable-of most few long = record {
     most = most;
     start = r .b;
     step = omega (arith, r .z-high, r .z-low);
@@ -126,20 +123,14 @@ module _ {n : ℕ} {c : CodeCertificate} (r : Ranged n (certificateAs c)) where
     f-lt = f-lt;
     h-lt = h-lt;
     small = r .u-high;
-    few = r .L-high;
+    few = few;
     long = long;
   }
-
-  pub walkable-of : {sheet z : List ℕ} {reps i : ℕ} → Checkable sheet n reps i z → Walkable n c z
-  walkable-of w = walkable-ranged (omega (arith, w .n-is, w .head .most)) (w .marks .long)
-
-pub lengths : {sheet z : List ℕ} {n reps i : ℕ} → Checkable sheet n reps i z → (3 ≤ n) × (n ≤ 127)
-lengths w = (omega (arith, w .n-is, w .head .least), omega (arith, w .n-is, w .head .most))
 
 pub distance-is : (c : CodeCertificate) {u v x : ℕ} → u ≡ degree (c .f) → v ≡ degree (c .h) → x ≡ (c .terms - v + (u - 1)) / u + 1
     → x ≡ distance (certificateAs c)
 unfolding distance
 distance-is c a b e = e ∙ ap₂ (λ (u v : ℕ). (c .terms - v + (u - 1)) / u + 1) a b
 
-pub quotient-le : (a u : ℕ) → a ≤ 1030 → a / u + 1 ≤ 1031
-quotient-le a u h = omega (arith, div-le-self a u)
+pub quotient-le : (a u L : ℕ) → a ≤ L + 7 → a / u + 1 ≤ L + 8
+quotient-le a u L h = omega (arith, div-le-self a u)

@@ -1,6 +1,8 @@
--- Demand 3, of the definition of decoding, in bytes: for every accepted sheet, received word and buffer of the right length.
+-- Demand 3, of the definition of decoding, in bytes: for every accepted sheet of any kind, received word and buffer of the right
+-- length.
 --
---   RightForm sheet word out      the lengths are right, and no spare bit is 1
+--   RightForm x word out      the lengths are right, and no spare bit is 1
+--   stated-found, stated-none      the same of what is stated, whatever the sheet
 --   decode-found      a codeword within t places is what decoding writes, with the number of changed places
 --   decode-none       where there is none, 13, and the buffer as it was
 --   demand-3          one of the two, always
@@ -14,67 +16,90 @@ use native.Mathlib.Omega.{arith}
 use lib.Dec.{eqb}
 use lib.ListN.{length}
 use borrow.Author.Tests.{eq-eqb, ne-eqb}
-use Rattle.document.specs.Answer.{returned, refused, firstOf}
+use Rattle.document.specs.Answer.{Answer, returned, refused, Conditions, firstOf}
 use Rattle.document.specs.Layout.{wordWeight, bytesFor, bytesOf, spare}
-use Rattle.document.specs.Sheet.{codeLength}
+use Rattle.document.specs.Sheet.{Stated, Kind, statedBy}
 use Rattle.document.specs.Generator.{differences}
-use Rattle.document.specs.Judge.{dimensionOf, judgeOf}
-use Rattle.document.specs.Entry.{wrongSize, radiusOf, wordOf, nearestMessage, decodedWord, decodeConditions, decodeOf}
-use Rattle.document.proofs.Chain.{first-true, first-false}
-use Rattle.document.proofs.Acceptance.{accepted-iff}
-use Rattle.document.proofs.Settled.{entry-refused, entry-done, first-nil, size-right}
-use Rattle.certificate.proofs.Sheets.{SheetCodeword, sheet-found, sheet-some, sheet-none, nearest-le}
+use Rattle.document.specs.Judge.{judgeConditions, dimensionOf}
+use Rattle.document.specs.Entry.{wrongSize, radiusOf, wordOf, nearestMessage, decodedWord, decodeConditions, decodeEntry}
+use Rattle.document.proofs.Chain.{Quiet, first-true, first-false}
+use Rattle.document.proofs.Acceptance.{judgeBy, judge-number, accepted-iff}
+use Rattle.document.proofs.Settled.{entry-quiet, entry-refused, entry-done, first-nil, size-right}
+use Rattle.certificate.proofs.Sheets.{Accepted, accepted, SheetCodeword, sheet-found, sheet-some, sheet-none, nearest-le}
 
-pub record RightForm (sheet word out : List ℕ) : Type 0 where
-  pub word-long : length word ≡ bytesFor (codeLength sheet)
-  pub out-long : length out ≡ bytesFor (codeLength sheet)
-  pub clear : spare wordWeight (codeLength sheet) word ≡ false
+pub record RightForm (x : Stated) (word out : List ℕ) : Type 0 where
+  pub word-long : length word ≡ bytesFor (x .n)
+  pub out-long : length out ≡ bytesFor (x .n)
+  pub clear : spare wordWeight (x .n) word ≡ false
 
-module _ (sheet : List ℕ) (e : judgeOf sheet .number ≡ 0) (word out : List ℕ) (r : RightForm sheet word out) where
+-- in how many places the word differs from c
+abbrev pub changed : Stated → List ℕ → ℕ → ℕ
+changed x word c = differences (x .n) (wordOf x word) c
+
+-- ---- what is stated: the conditions of the sheet's refusals are quiet, and it states x
+module _ {x : Stated} (a : Accepted x) {conditions : Conditions} (q : Quiet conditions) (word out : List ℕ) (r : RightForm x word out) where
   abbrev n : ℕ
-  n = codeLength sheet
-
-  abbrev changed : ℕ → ℕ
-  changed c = differences n (wordOf sheet word) c
+  n = x .n
 
   abbrev none : Bool
-  none = eqb (nearestMessage sheet word) (2 ^ dimensionOf sheet)
+  none = eqb (nearestMessage x word) (2 ^ dimensionOf x)
 
-  before : firstOf (decodeConditions sheet word out) ≡ firstOf ((13, none) ∷ [])
+  before : firstOf (decodeConditions x word out) ≡ firstOf ((13, none) ∷ [])
   unfolding decodeConditions
   before =
       first-false (11, wrongSize n word) _ (size-right n word (r .word-long))
       ∙ first-false (11, wrongSize n out) _ (size-right n out (r .out-long))
       ∙ first-false (12, spare wordWeight n word) _ (r .clear)
 
-  pub decode-found : {c : ℕ} → SheetCodeword sheet e c → changed c ≤ radiusOf sheet
-      → (returned (changed c ∷ []), bytesOf wordWeight n c) ≡ decodeOf sheet word out
-  unfolding decodeOf
-  decode-found {c} x h =
-      let w = sheet-found sheet e word x h in
-      ap (λ (y : ℕ). (returned (changed y ∷ []), bytesOf wordWeight n y)) (sym (w .1))
-      ∙ entry-done sheet (decodeConditions sheet word out) (changed (decodedWord sheet word) ∷ [])
-      (bytesOf wordWeight n (decodedWord sheet word)) out (accepted-iff sheet .0 e)
-      (before
-      ∙ first-false (13, none) [] (ne-eqb (nearestMessage sheet word) (2 ^ dimensionOf sheet) (λ q. omega (arith, w .0, q)))
-      ∙ first-nil) refl
+  pub stated-found : {c : ℕ} → SheetCodeword x c → changed x word c ≤ radiusOf x
+      → (returned (changed x word c ∷ []), bytesOf wordWeight n c) ≡ decodeEntry conditions x word out
+  unfolding decodeEntry
+  stated-found {c} w h =
+      let f = sheet-found a word w h in
+      ap (λ (y : ℕ). (returned (changed x word y ∷ []), bytesOf wordWeight n y)) (sym (f .1))
+      ∙ entry-done (decodeConditions x word out) (changed x word (decodedWord x word) ∷ []) (bytesOf wordWeight n (decodedWord x word)) out
+      (before ∙ first-false (13, none) [] (ne-eqb (nearestMessage x word) (2 ^ dimensionOf x) (λ e. omega (arith, f .0, e))) ∙ first-nil)
+      refl
+      ∙ entry-quiet (decodeConditions x word out) (changed x word (decodedWord x word) ∷ []) (bytesOf wordWeight n (decodedWord x word)) out q
 
-  pub decode-none : ((c : ℕ) → SheetCodeword sheet e c → radiusOf sheet < changed c) → (refused 13, out) ≡ decodeOf sheet word out
-  unfolding decodeOf
-  decode-none f =
-      entry-refused sheet (decodeConditions sheet word out) (changed (decodedWord sheet word) ∷ [])
-      (bytesOf wordWeight n (decodedWord sheet word)) out 12 (accepted-iff sheet .0 e)
-      (before ∙ first-true (13, none) [] (eq-eqb (nearestMessage sheet word) (2 ^ dimensionOf sheet) (sheet-none sheet e word .1 f)))
+  pub stated-none : ((c : ℕ) → SheetCodeword x c → radiusOf x < changed x word c) → (refused 13, out) ≡ decodeEntry conditions x word out
+  unfolding decodeEntry
+  stated-none f =
+      entry-refused (decodeConditions x word out) (changed x word (decodedWord x word) ∷ []) (bytesOf wordWeight n (decodedWord x word)) out 12
+      (before ∙ first-true (13, none) [] (eq-eqb (nearestMessage x word) (2 ^ dimensionOf x) (sheet-none a word .1 f)))
+      ∙ entry-quiet (decodeConditions x word out) (changed x word (decodedWord x word) ∷ []) (bytesOf wordWeight n (decodedWord x word)) out q
+
+-- ---- a sheet's bytes
+module _ (kind : Kind) (small : kind .mostPlaces ≤ 65535) (sheet : List ℕ) (e : judgeBy kind sheet .number ≡ 0) (word out : List ℕ)
+    (r : RightForm (statedBy kind sheet) word out) where
+  abbrev x : Stated
+  x = statedBy kind sheet
+
+  abbrev decoding : Answer × List ℕ
+  decoding = decodeEntry (judgeConditions kind sheet) x word out
+
+  a : Accepted x
+  a = accepted kind small sheet (sym (judge-number kind sheet) ∙ e)
+
+  quiet : Quiet (judgeConditions kind sheet)
+  quiet = accepted-iff kind sheet .0 e
+
+  pub decode-found : {c : ℕ} → SheetCodeword x c → changed x word c ≤ radiusOf x
+      → (returned (changed x word c ∷ []), bytesOf wordWeight (x .n) c) ≡ decoding
+  decode-found w h = stated-found a quiet word out r w h
+
+  pub decode-none : ((c : ℕ) → SheetCodeword x c → radiusOf x < changed x word c) → (refused 13, out) ≡ decoding
+  decode-none f = stated-none a quiet word out r f
 
   -- a codeword within t places, and it is written with the number of changed places; or 13, and there is none
   pub demand-3 :
-      ((c : ℕ) × SheetCodeword sheet e c × (changed c ≤ radiusOf sheet)
-      × (decodeOf sheet word out ≡ (returned (changed c ∷ []), bytesOf wordWeight n c)))
-      ⊎ (((c : ℕ) → SheetCodeword sheet e c → radiusOf sheet < changed c) × (decodeOf sheet word out ≡ (refused 13, out)))
+      ((c : ℕ) × SheetCodeword x c × (changed x word c ≤ radiusOf x)
+      × (decoding ≡ (returned (changed x word c ∷ []), bytesOf wordWeight (x .n) c)))
+      ⊎ (((c : ℕ) → SheetCodeword x c → radiusOf x < changed x word c) × (decoding ≡ (refused 13, out)))
   demand-3 =
-      elim (ℕ-discrete (nearestMessage sheet word) (2 ^ dimensionOf sheet)) [
-        | yes q ↦ (let f = sheet-none sheet e word .0 q in inr (f, sym (decode-none f)))
-        | no q ↦
-            (let w = sheet-some sheet e word (omega (arith, nearest-le sheet e word, q)) in
-            inl (decodedWord sheet word, w .0, w .1, sym (decode-found (w .0) (w .1))))
+      elim (ℕ-discrete (nearestMessage x word) (2 ^ dimensionOf x)) [
+        | yes e ↦ (let f = sheet-none a word .0 e in inr (f, sym (decode-none f)))
+        | no e ↦
+            (let w = sheet-some a word (omega (arith, nearest-le a word, e)) in
+            inl (decodedWord x word, w .0, w .1, sym (decode-found (w .0) (w .1))))
       ]

@@ -2,20 +2,18 @@
 --
 --   steps-b .., ratio-u-low .., extent-L-low ..      one law for each exit of a part; steps-pass, ratio-pass, extent-pass
 --   range-steps, range-ratio, range-extent, range-pass      rule 1 by its parts
---   certificate-is              a certificate of the bytes that the code reads
---   Ranged n c, ranged          what a certificate that keeps rule 1 satisfies
+--   Ranged n c, ranged          what a certificate that keeps rule 1 satisfies, whatever the largest L; L-within: and its L
 use mathlib.Core.Path.{_≡_, refl, sym, ap, ap₂, _∙_}
 use mathlib.Core.Logic.{_≢_}
 use mathlib.Core.Bool.{Bool, true, false, _&&_, not}
-use mathlib.Core.List.{List}
-use Prim.Native.Nat.{ℕ, _+_, _-_, _*_, _%_, _≤_, _<_}
+use Prim.Native.Nat.{ℕ, _-_, _%_, _≤_, _<_}
 use native.Mathlib.Nat.{div-one}
 use lib.Dec.{eqb, leb, ltb}
 use borrow.Author.Tests.{lt-ltb, le-ltb, le-leb, lt-leb, eq-eqb, ne-eqb, ltb-true, leb-true, eqb-true, eqb-false}
 use Rattle.field.specs.Mask.{coefficient}
 use Rattle.field.proofs.Search.{true-ne-false}
 use Rattle.binary.specs.Factor.{coprime, degree}
-use Rattle.document.specs.Sheet.{byteAt, numberAt, representativeCount, Certificate, certificate}
+use Rattle.document.specs.Sheet.{Certificate}
 use Rattle.document.specs.Certificate.{steps, ratio, extent, rule1}
 
 lowest : (f : ℕ) → coefficient 0 f ≡ f % 2
@@ -98,22 +96,22 @@ module _ (c : Certificate) where
         lt-ltb (degree (c .h)) (degree (c .f)) p4,
       )
 
-module _ (c : Certificate) where
-  pub extent-L-low : c .L < 1 → true ≡ not (extent c)
+module _ (most : ℕ) (c : Certificate) where
+  pub extent-L-low : c .L < 1 → true ≡ not (extent most c)
   unfolding extent
   extent-L-low q = simp (lt-leb 1 (c .L) q)
 
-  pub extent-L-high : 1 ≤ c .L → 1023 < c .L → true ≡ not (extent c)
+  pub extent-L-high : 1 ≤ c .L → most < c .L → true ≡ not (extent most c)
   unfolding extent
-  extent-L-high p0 q = simp (le-leb 1 (c .L) p0, lt-leb (c .L) 1023 q)
+  extent-L-high p0 q = simp (le-leb 1 (c .L) p0, lt-leb (c .L) most q)
 
-  pub extent-zero : 1 ≤ c .L → c .L ≤ 1023 → c .zeroByte ≢ 0 → true ≡ not (extent c)
+  pub extent-zero : 1 ≤ c .L → c .L ≤ most → c .zeroField ≢ 0 → true ≡ not (extent most c)
   unfolding extent
-  extent-zero p0 p1 q = simp (le-leb 1 (c .L) p0, le-leb (c .L) 1023 p1, ne-eqb (c .zeroByte) 0 q)
+  extent-zero p0 p1 q = simp (le-leb 1 (c .L) p0, le-leb (c .L) most p1, ne-eqb (c .zeroField) 0 q)
 
-  pub extent-pass : 1 ≤ c .L → c .L ≤ 1023 → c .zeroByte ≡ 0 → false ≡ not (extent c)
+  pub extent-pass : 1 ≤ c .L → c .L ≤ most → c .zeroField ≡ 0 → false ≡ not (extent most c)
   unfolding extent
-  extent-pass p0 p1 p2 = simp (le-leb 1 (c .L) p0, le-leb (c .L) 1023 p1, eq-eqb (c .zeroByte) 0 p2)
+  extent-pass p0 p1 p2 = simp (le-leb 1 (c .L) p0, le-leb (c .L) most p1, eq-eqb (c .zeroField) 0 p2)
 
 -- ---- rule 1 by its parts
 both : (a b : Bool) → a && b ≡ true → (a ≡ true) × (b ≡ true)
@@ -132,28 +130,28 @@ and-false : (a : Bool) → a && false ≡ false
 and-false true = refl
 and-false false = refl
 
-module _ (n : ℕ) (c : Certificate) where
-  pub range-steps : true ≡ not (steps n c) → true ≡ not (rule1 n c)
+module _ (most n : ℕ) (c : Certificate) where
+  pub range-steps : true ≡ not (steps n c) → true ≡ not (rule1 most n c)
   unfolding rule1
-  range-steps e = sym (ap (λ b. not (b && ratio c && extent c)) (fails (steps n c) (sym e)))
+  range-steps e = sym (ap (λ b. not (b && ratio c && extent most c)) (fails (steps n c) (sym e)))
 
-  pub range-ratio : true ≡ not (ratio c) → true ≡ not (rule1 n c)
+  pub range-ratio : true ≡ not (ratio c) → true ≡ not (rule1 most n c)
   unfolding rule1
   range-ratio e =
-      sym (ap (λ b. not (steps n c && b && extent c)) (fails (ratio c) (sym e))
-      ∙ ap (λ b. not (b && extent c)) (and-false (steps n c)))
+      sym (ap (λ b. not (steps n c && b && extent most c)) (fails (ratio c) (sym e))
+      ∙ ap (λ b. not (b && extent most c)) (and-false (steps n c)))
 
-  pub range-extent : true ≡ not (extent c) → true ≡ not (rule1 n c)
+  pub range-extent : true ≡ not (extent most c) → true ≡ not (rule1 most n c)
   unfolding rule1
   range-extent e =
-      sym (ap (λ b. not (steps n c && ratio c && b)) (fails (extent c) (sym e)) ∙ ap not (and-false (steps n c && ratio c)))
+      sym (ap (λ b. not (steps n c && ratio c && b)) (fails (extent most c) (sym e)) ∙ ap not (and-false (steps n c && ratio c)))
 
-  pub range-pass : false ≡ not (steps n c) → false ≡ not (ratio c) → false ≡ not (extent c) → false ≡ not (rule1 n c)
+  pub range-pass : false ≡ not (steps n c) → false ≡ not (ratio c) → false ≡ not (extent most c) → false ≡ not (rule1 most n c)
   unfolding rule1
   range-pass a b d =
       sym
-      (ap₂ (λ x y. not (x && y && extent c)) (holds (steps n c) (sym a)) (holds (ratio c) (sym b))
-      ∙ ap not (holds (extent c) (sym d)))
+      (ap₂ (λ x y. not (x && y && extent most c)) (holds (steps n c) (sym a)) (holds (ratio c) (sym b))
+      ∙ ap not (holds (extent most c) (sym d)))
 
 pub record Ranged (n : ℕ) (c : Certificate) : Type 0 where
   pub b : c .b < n
@@ -165,13 +163,12 @@ pub record Ranged (n : ℕ) (c : Certificate) : Type 0 where
   pub f-odd : c .f % 2 ≡ 1
   pub h : c .h ≢ 0
   pub v : degree (c .h) < degree (c .f)
-  pub L-high : c .L ≤ 1023
-  pub zero : c .zeroByte ≡ 0
+  pub zero : c .zeroField ≡ 0
 
-pub ranged : (n : ℕ) (c : Certificate) → not (rule1 n c) ≡ false → Ranged n c
+pub ranged : (most n : ℕ) (c : Certificate) → not (rule1 most n c) ≡ false → Ranged n c
 unfolding rule1 steps ratio extent
-ranged n c e =
-    let p = both (steps n c && ratio c) (extent c) (holds (rule1 n c) e) in
+ranged most n c e =
+    let p = both (steps n c && ratio c) (extent most c) (holds (rule1 most n c) e) in
     let q = both (steps n c) (ratio c) (p .0) in
     let s₃ = both (ltb (c .b) n && leb 1 (c .z) && leb (c .z) (n - 1)) (coprime (c .z) n) (q .0) in
     let s₂ = both (ltb (c .b) n && leb 1 (c .z)) (leb (c .z) (n - 1)) (s₃ .0) in
@@ -180,8 +177,7 @@ ranged n c e =
     let r₃ = both _ (not (eqb (c .h) 0)) (r₄ .0) in
     let r₂ = both (leb 1 (degree (c .f)) && leb (degree (c .f)) 8) (eqb (coefficient 0 (c .f)) 1) (r₃ .0) in
     let r₁ = both (leb 1 (degree (c .f))) (leb (degree (c .f)) 8) (r₂ .0) in
-    let t₂ = both (leb 1 (c .L) && leb (c .L) 1023) (eqb (c .zeroByte) 0) (p .1) in
-    let t₁ = both (leb 1 (c .L)) (leb (c .L) 1023) (t₂ .0) in
+    let t₂ = both (leb 1 (c .L) && leb (c .L) most) (eqb (c .zeroField) 0) (p .1) in
     record {
       b = ltb-true (c .b) n (s₁ .0);
       z-low = leb-true 1 (c .z) (s₁ .1);
@@ -192,24 +188,13 @@ ranged n c e =
       f-odd = sym (lowest (c .f)) ∙ eqb-true (coefficient 0 (c .f)) 1 (r₂ .1);
       h = eqb-false (c .h) 0 (fails (eqb (c .h) 0) (r₃ .1));
       v = ltb-true (degree (c .h)) (degree (c .f)) (r₄ .1);
-      L-high = leb-true (c .L) 1023 (t₁ .1);
-      zero = eqb-true (c .zeroByte) 0 (t₂ .1);
+      zero = eqb-true (c .zeroField) 0 (t₂ .1);
     }
 
--- ---- the certificate as it is read
-pub certificate-is : (s : List ℕ) (reps k : ℕ) {b z f h zero L : ℕ} → reps ≡ representativeCount s → b ≡ byteAt s (10 + reps + 8 * k)
-    → z ≡ byteAt s (10 + reps + 8 * k + 1) → f ≡ numberAt s (10 + reps + 8 * k + 2) → h ≡ byteAt s (10 + reps + 8 * k + 4)
-    → zero ≡ byteAt s (10 + reps + 8 * k + 5) → L ≡ numberAt s (10 + reps + 8 * k + 6)
-    → _≡_ {A = Certificate} (record { b = b; z = z; f = f; h = h; zeroByte = zero; L = L }) (certificate s k)
-unfolding certificate
-certificate-is s reps k e eb ez ef eh e0 eL =
-    _∙_ {A = Certificate} (λ i. record { b = eb i; z = ez i; f = ef i; h = eh i; zeroByte = e0 i; L = eL i })
-    (ap
-    (λ (r : ℕ). record {
-      b = byteAt s (10 + r + 8 * k);
-      z = byteAt s (10 + r + 8 * k + 1);
-      f = numberAt s (10 + r + 8 * k + 2);
-      h = byteAt s (10 + r + 8 * k + 4);
-      zeroByte = byteAt s (10 + r + 8 * k + 5);
-      L = numberAt s (10 + r + 8 * k + 6);
-    }) e)
+pub L-within : (most n : ℕ) (c : Certificate) → not (rule1 most n c) ≡ false → c .L ≤ most
+unfolding rule1 extent
+L-within most n c e =
+    let p = both (steps n c && ratio c) (extent most c) (holds (rule1 most n c) e) in
+    let t₂ = both (leb 1 (c .L) && leb (c .L) most) (eqb (c .zeroField) 0) (p .1) in
+    let t₁ = both (leb 1 (c .L)) (leb (c .L) most) (t₂ .0) in
+    leb-true (c .L) most (t₁ .1)

@@ -3,7 +3,7 @@
 --   register-digit    the terms of h/f are the theory's digits
 --   no-factor         coprime numbers have no factor in common
 --   mask-divides, no-common      nor have masks for which `common` says no
---   Sound n reps c    a certificate that meets rules 1 to 4; sound-of: on a sheet
+--   Sound n reps c    a certificate that meets rules 1 to 4, whatever the largest L; sound-of: by the rules
 --   covered-here      rule 4 term by term
 --   theory            it is one of the theory, over the code of n and reps: distance-is, radius-is
 use mathlib.Core.Path.{_≡_, refl, sym, ap, ap₂, _∙_}
@@ -33,9 +33,9 @@ use Rattle.cyclic.proofs.Apart.{apart}
 use Rattle.cyclic.proofs.Radius.{distanceOf, radiusFor}
 use Rattle.cyclic.proofs.Syndromes as Syndromes
 use Rattle.cyclic.proofs.Certificate.{RationalCertificate, syndromes}
-use Rattle.document.specs.Sheet.{codeLength, representatives, Certificate as Written, certificate}
+use Rattle.document.specs.Sheet.{Certificate as Written}
 use Rattle.document.specs.Coset.{inSet}
-use Rattle.document.specs.Certificate.{rule1, rule2, rule3, rule4, distance, radius}
+use Rattle.document.specs.Certificate.{rule2, rule3, rule4, distance, radius}
 use Rattle.document.proofs.Theory.{Length, T-of, codeOf}
 use Rattle.document.proofs.Acceptance.{Rules}
 use Rattle.certificate.proofs.Ranges.{Ranged, ranged}
@@ -113,13 +113,13 @@ no-common f h p e d x y = go (decLt d 2)
 
 -- ---- the certificate
 pub record Sound (n : ℕ) (reps : List ℕ) (c : Written) : Type 0 where
-  pub range : rule1 n c ≡ true
+  pub range : Ranged n c
   pub factor : rule2 c ≡ true
   pub period-coprime : rule3 n c ≡ true
   pub covered : rule4 n reps c ≡ true
 
-pub sound-of : {sheet : List ℕ} {i : ℕ} → Rules sheet i → Sound (codeLength sheet) (representatives sheet) (certificate sheet i)
-sound-of r = record { range = r .range; factor = r .factor; period-coprime = r .period; covered = r .terms }
+pub sound-of : {most n : ℕ} {reps : List ℕ} {c : Written} → Rules most n reps c → Sound n reps c
+sound-of {most} {n} {reps} {c} r = record { range = ranged most n c (ap not (r .range)); factor = r .factor; period-coprime = r .period; covered = r .terms }
 
 not-true : (b : Bool) → not b ≡ true → b ≡ false
 not-true true e = sym e
@@ -131,7 +131,7 @@ or-cases false b e = inr e
 
 module _ {n : ℕ} (l : Length n) (reps : List ℕ) (c : Written) (s : Sound n reps c) where
   pub in-range : Ranged n c
-  in-range = ranged n c (ap not (s .range))
+  in-range = s .range
 
   pub f-pos : 0 < c .f
   f-pos = let o : c .f % 2 ≡ 1 = in-range .f-odd in omega arith

@@ -1,8 +1,9 @@
--- The theorems of Distance.antt for every accepted sheet, with its own numbers.
+-- The theorems of Distance.antt for what an accepted sheet states, with its own numbers.
 --
---   accepted-length     n is odd, and s at most 12
---   certificate-sound   every certificate on the sheet meets rules 1 to 4; working-sound: so does the working one
---   SheetCodeword       a codeword of the sheet's code
+--   Accepted x          what an accepted sheet states: n is odd, s at most 12, and every certificate meets rules 1 to 4
+--   accepted            so does every sheet, of any kind, that draws no refusal
+--   working-sound       the working certificate meets rules 1 to 4
+--   SheetCodeword x c   a codeword of what is stated
 --   sheet-distance      any two different codewords differ in at least d places, d of any certificate on it
 --   sheet-unique        at most one codeword lies within t places of a word, t the sheet's
 --   sheet-found, sheet-some, sheet-none      `nearestMessage` finds it, or there is none
@@ -11,100 +12,104 @@ use mathlib.Core.Logic.{_≢_, _↔_}
 use mathlib.Core.Bool.{true}
 use mathlib.Core.List.{List}
 use Prim.Native.Nat.{ℕ, _-_, _^_, _≤_, _<_}
-use Rattle.document.specs.Sheet.{codeLength, representatives, certificateCount, certificate}
+use lib.ListN.{length}
+use Rattle.document.specs.Answer.{firstOf}
+use Rattle.document.specs.Sheet.{Stated, certificateAt, Kind, statedBy, wrongLength, wrongCodeLength, wrongHeader}
 use Rattle.document.specs.Generator.{isCodeword, Codeword, differences}
 use Rattle.document.specs.Certificate.{distance, radius}
-use Rattle.document.specs.Judge.{wrongLength, wrongCodeLength, wrongDegree, wrongHeader, sheetConditions}
-use Rattle.document.specs.Judge.{dimensionOf, workingOf, workingCertificate, judgeOf}
+use Rattle.document.specs.Judge.{wrongDegree, sheetConditions, judgeConditions, dimensionOf, workingOf, workingCertificate}
 use Rattle.document.specs.Entry.{generatorOf, radiusOf, wordOf, nearestMessage, decodedWord}
-use Rattle.document.proofs.Sane.{passed, working-most}
+use Rattle.document.proofs.Sane.{passed, working-most, accepted-dimension}
 use Rattle.document.proofs.Theory.{Length}
-use Rattle.document.proofs.Acceptance.{quiet-first, accepted-rules}
-use Rattle.sheet.specs.Stage.{Headed}
-use Rattle.sheet.proofs.Headed.{headed, headed-length}
+use Rattle.document.proofs.Stated.{Headed, headed}
+use Rattle.document.proofs.Acceptance.{quiet-of, quiet-rules}
 use Rattle.certificate.proofs.RulesHeld.{Sound, sound-of}
 use Rattle.certificate.proofs.Distance as Distance
 
-module _ (sheet : List ℕ) (e : judgeOf sheet .number ≡ 0) where
+pub record Accepted (x : Stated) : Type 0 where
+  pub head : Headed x
+  pub some : 1 ≤ dimensionOf x
+  pub sound : (i : ℕ) → i < length (x .certificates) → Sound (x .n) (x .representatives) (certificateAt x i)
+
+pub accepted : (kind : Kind) → kind .mostPlaces ≤ 65535 → (sheet : List ℕ) → firstOf (judgeConditions kind sheet) ≡ 0
+    → Accepted (statedBy kind sheet)
+unfolding judgeConditions sheetConditions
+accepted kind small sheet e =
+    let x : Stated = statedBy kind sheet in
+    let p₁ = passed 0 (wrongLength kind sheet) _ e in
+    let p₂ = passed 1 (wrongCodeLength kind (x .n)) _ (p₁ .1) in
+    let p₃ = passed 2 (wrongDegree (x .n)) _ (p₂ .1) in
+    let p₄ = passed 3 (wrongHeader kind sheet) _ (p₃ .1) in
+    record {
+      head = headed kind small sheet (p₂ .0) (p₃ .0) (p₄ .0);
+      some = accepted-dimension kind sheet e;
+      sound = λ i h. sound-of (quiet-rules kind sheet (quiet-of kind sheet e) i h);
+    }
+
+-- a codeword of what is stated
+pub record SheetCodeword (x : Stated) (c : ℕ) : Type 0 where
+  pub small : c < 2 ^ x .n
+  pub is : isCodeword (x .n - dimensionOf x) (generatorOf x) c ≡ true
+
+module _ {x : Stated} (a : Accepted x) where
   abbrev n : ℕ
-  n = codeLength sheet
+  n = x .n
 
   abbrev k : ℕ
-  k = dimensionOf sheet
+  k = dimensionOf x
 
-  abbrev g : ℕ
-  g = generatorOf sheet
-
-  accepted-head : Headed sheet
-  unfolding sheetConditions
-  accepted-head =
-      let p₁ = passed 0 (wrongLength sheet) _ (quiet-first (accepted-rules sheet .0 e .0)) in
-      let p₂ = passed 1 (wrongCodeLength sheet) _ (p₁ .1) in
-      let p₃ = passed 2 (wrongDegree sheet) _ (p₂ .1) in
-      let p₄ = passed 3 (wrongHeader sheet) _ (p₃ .1) in
-      headed sheet (p₂ .0) (p₃ .0) (p₄ .0)
+  abbrev reps : List ℕ
+  reps = x .representatives
 
   pub accepted-length : Length n
-  accepted-length = headed-length accepted-head
+  accepted-length = a .head .length-of
 
-  pub certificate-sound : (i : ℕ) → i < certificateCount sheet → Sound n (representatives sheet) (certificate sheet i)
-  certificate-sound i h = sound-of (accepted-rules sheet .0 e .1 i h)
+  pub working-lt : workingOf x < length (x .certificates)
+  unfolding workingOf
+  working-lt = working-most (length (x .certificates)) (λ i. radius (certificateAt x i)) 0 (a .head .one) .0
 
-  pub working-sound : Sound n (representatives sheet) (workingCertificate sheet)
-  unfolding workingCertificate workingOf
-  working-sound =
-      certificate-sound (workingOf sheet)
-      (working-most (certificateCount sheet) (λ c. radius (certificate sheet c)) 0 (accepted-head .one) .0)
+  pub working-sound : Sound n reps (workingCertificate x)
+  unfolding workingCertificate
+  working-sound = a .sound (workingOf x) working-lt
 
-  -- a codeword of the sheet's code
-  pub record SheetCodeword (c : ℕ) : Type 0 where
-    pub small : c < 2 ^ n
-    pub is : isCodeword (n - k) g c ≡ true
-
-  word : {c : ℕ} → SheetCodeword c → Codeword n (representatives sheet) c
+  word : {c : ℕ} → SheetCodeword x c → Codeword n reps c
   unfolding dimensionOf generatorOf
-  word x = record { small = x .small; is = x .is }
+  word w = record { small = w .small; is = w .is }
 
-  pub sheet-distance : (i : ℕ) → i < certificateCount sheet → {a b : ℕ} → SheetCodeword a → SheetCodeword b → a ≢ b
-      → distance (certificate sheet i) ≤ differences n a b
-  sheet-distance i h x y ne =
-      Distance.distance-holds accepted-length (representatives sheet) (certificate sheet i) (certificate-sound i h) (word x) (word y) ne
-
-  word-back : {c : ℕ} → Codeword n (representatives sheet) c → SheetCodeword c
+  word-back : {c : ℕ} → Codeword n reps c → SheetCodeword x c
   unfolding dimensionOf generatorOf
-  word-back x = record { small = x .small; is = x .is }
+  word-back w = record { small = w .small; is = w .is }
 
-  pub sheet-unique : (r : ℕ) {a b : ℕ} → SheetCodeword a → SheetCodeword b → differences n r a ≤ radiusOf sheet → differences n r b ≤ radiusOf sheet
+  pub sheet-distance : (i : ℕ) → i < length (x .certificates) → {a b : ℕ} → SheetCodeword x a → SheetCodeword x b → a ≢ b
+      → distance (certificateAt x i) ≤ differences n a b
+  sheet-distance i h v w ne =
+      Distance.distance-holds accepted-length reps (certificateAt x i) (a .sound i h) (word v) (word w) ne
+
+  pub sheet-unique : (r : ℕ) {a b : ℕ} → SheetCodeword x a → SheetCodeword x b → differences n r a ≤ radiusOf x → differences n r b ≤ radiusOf x
       → a ≡ b
   unfolding radiusOf
-  sheet-unique r x y h j =
-      Distance.near-only accepted-length (representatives sheet) (workingCertificate sheet) working-sound r (word x) (word y) h j
+  sheet-unique r v w h j = Distance.near-only accepted-length reps (workingCertificate x) working-sound r (word v) (word w) h j
 
   -- ---- what decoding is to find
-  pub sheet-found : (bytes : List ℕ) {c : ℕ} → SheetCodeword c → differences n (wordOf sheet bytes) c ≤ radiusOf sheet
-      → (nearestMessage sheet bytes < 2 ^ k) × (decodedWord sheet bytes ≡ c)
+  pub sheet-found : (bytes : List ℕ) {c : ℕ} → SheetCodeword x c → differences n (wordOf x bytes) c ≤ radiusOf x
+      → (nearestMessage x bytes < 2 ^ k) × (decodedWord x bytes ≡ c)
   unfolding radiusOf nearestMessage decodedWord dimensionOf generatorOf
-  sheet-found bytes x h =
-      Distance.nearest-is accepted-length (representatives sheet) (workingCertificate sheet) working-sound (wordOf sheet bytes)
-      (word x) h
+  sheet-found bytes w h = Distance.nearest-is accepted-length reps (workingCertificate x) working-sound (wordOf x bytes) (word w) h
 
-  pub sheet-some : (bytes : List ℕ) → nearestMessage sheet bytes < 2 ^ k
-      → SheetCodeword (decodedWord sheet bytes) × (differences n (wordOf sheet bytes) (decodedWord sheet bytes) ≤ radiusOf sheet)
+  pub sheet-some : (bytes : List ℕ) → nearestMessage x bytes < 2 ^ k
+      → SheetCodeword x (decodedWord x bytes) × (differences n (wordOf x bytes) (decodedWord x bytes) ≤ radiusOf x)
   unfolding radiusOf nearestMessage decodedWord dimensionOf generatorOf
   sheet-some bytes h =
-      let w =
-      Distance.nearest-some accepted-length (representatives sheet) (workingCertificate sheet) working-sound (wordOf sheet bytes) h in
+      let w = Distance.nearest-some accepted-length reps (workingCertificate x) working-sound (wordOf x bytes) h in
       (word-back (w .0), w .1)
 
-  pub sheet-none : (bytes : List ℕ) → (nearestMessage sheet bytes ≡ 2 ^ k)
-      ↔ ((c : ℕ) → SheetCodeword c → radiusOf sheet < differences n (wordOf sheet bytes) c)
+  pub sheet-none : (bytes : List ℕ) → (nearestMessage x bytes ≡ 2 ^ k)
+      ↔ ((c : ℕ) → SheetCodeword x c → radiusOf x < differences n (wordOf x bytes) c)
   unfolding radiusOf nearestMessage dimensionOf generatorOf
   sheet-none bytes =
-      let w =
-      Distance.nearest-none accepted-length (representatives sheet) (workingCertificate sheet) working-sound (wordOf sheet bytes) in
-      (λ q c x. w .0 q c (word x), λ f. w .1 (λ c x. f c (word-back x)))
+      let w = Distance.nearest-none accepted-length reps (workingCertificate x) working-sound (wordOf x bytes) in
+      (λ q c v. w .0 q c (word v), λ f. w .1 (λ c v. f c (word-back v)))
 
-  pub nearest-le : (bytes : List ℕ) → nearestMessage sheet bytes ≤ 2 ^ k
+  pub nearest-le : (bytes : List ℕ) → nearestMessage x bytes ≤ 2 ^ k
   unfolding radiusOf nearestMessage dimensionOf generatorOf
-  nearest-le bytes =
-      Distance.nearest-le accepted-length (representatives sheet) (workingCertificate sheet) working-sound (wordOf sheet bytes)
+  nearest-le bytes = Distance.nearest-le accepted-length reps (workingCertificate x) working-sound (wordOf x bytes)

@@ -23,12 +23,12 @@ use Rattle.field.proofs.Xor.{⊕-zero-r}
 use Rattle.binary.specs.Factor.{degree, terms}
 use Rattle.binary.proofs.Coprime.{every-not}
 use Rattle.binary.proofs.Series.{register, register-z, register-s, register-lt, terms-at}
-use Rattle.certificate.specs.declared.types.Certificate.{Certificate as CodeCertificate}
+use Rattle.sheet.specs.declared.types.Certificate.{Certificate as CodeCertificate}
 use Rattle.document.specs.Coset.{inSet}
 use Rattle.document.specs.Certificate.{rule4}
 use Rattle.field.specs.Search.{bit}
-use Rattle.sheet.specs.Stage.{Marks}
-use Rattle.certificate.specs.Rules.{Walkable, Ruled, certificateAs}
+use Rattle.sheet.specs.Stage.{Marks, certificateAs}
+use Rattle.certificate.specs.Rules.{Walkable, Ruled}
 
 pub register-set : (f x : ℕ) → x % 2 ≡ 1 → bitXor x f / 2 ≡ (x ⊕ (x % 2) * f) / 2
 unfolding _⊕_

@@ -1,13 +1,16 @@
 // A certificate against rules 1 to 4: refusals 7 to 10, and its distance.
 ghost use mathlib.Core.Path.{_≡_};
 ghost use Prim.Native.Nat.{_+_, _-_, _/_, _≤_};
-ghost use Rattle.certificate.specs.Rules.{Checkable, checkedAs, checkOf, distanceIn};
-use crate::range::read;
+ghost use Rattle.binary.specs.Factor.{degree};
+ghost use Rattle.document.specs.Certificate.{distance as distanceOf};
+ghost use Rattle.sheet.specs.Stage.{certificateAs};
+ghost use Rattle.certificate.specs.Rules.{Checkable, CheckedBy, checkedAs, distanceIn};
 use crate::range::wrong_range;
 use crate::rules::wrong_period;
 use crate::rules::wrong_terms;
 use crate::types::Checked;
 use document::types::Refusal;
+use sheet::types::Certificate;
 
 // a less b, or 0 where b is larger.
 fn less(a: usize, b: usize) -> usize
@@ -18,30 +21,41 @@ fn less(a: usize, b: usize) -> usize
 
 // (L - v)/u + 1, rounded up.
 fn distance(terms: usize, u: usize, v: usize) -> usize
-    requires { ⌜ (1 ≤ u) × (u ≤ 8) × (terms ≤ 1023) ⌝ }
-    ensures { λ r. ⌜ (r ≡ (terms - v + (u - 1)) / u + 1) × (r ≤ 1031) ⌝ }
+    requires { ⌜ (1 ≤ u) × (u ≤ 8) × (terms ≤ 65535) ⌝ }
+    ensures { λ r. ⌜ (r ≡ (terms - v + (u - 1)) / u + 1) × (r ≤ terms + 8) ⌝ }
 {
     (less(terms, v) + (u - 1)) / u + 1
 }
 
-// Certificate i against rules 1 to 4 in turn.
-pub fn check(sheet: &[u8], n: usize, reps: usize, i: usize, zeros: &[u8]) -> Checked
-    requires { ⌜ Checkable (now sheet) n reps i (now zeros) ⌝ }
-    ensures { λ r. ⌜ (checkedAs r ≡ checkOf (now (sheet .entry)) i) × (distanceIn r ≤ 1031) ⌝ }
+// The distance of a certificate that keeps rule 1.
+pub fn distance_of(c: Certificate) -> usize
+    requires { ⌜ (1 ≤ degree (c .f)) × (degree (c .f) ≤ 8) ⌝ }
+    ensures { λ r. ⌜ (r ≡ distanceOf (certificateAs c)) × (r ≤ c .terms + 8) ⌝ }
 {
-    let c = read(sheet, reps, i);
-    if wrong_range(n, c) {
+    let u = binary::factor::degree(c.f as usize);
+    let v = binary::factor::degree(c.h as usize);
+    distance(c.terms as usize, u, v)
+}
+
+// A certificate of at most `most` terms against rules 1 to 4 in turn, by the marks of D.
+pub fn check(most: usize, n: usize, c: Certificate, zeros: &[u8]) -> Checked
+    requires { ⌜ Checkable n (now zeros) ⌝ }
+    ensures { λ r. ⌜ CheckedBy most n (certificateAs c) (now (zeros .entry)) (checkedAs r) × (distanceIn r ≤ most + 8) ⌝ }
+{
+    if wrong_range(most, n, c) {
         return Checked::Refused(Refusal::Range);
     }
-    if binary::common::common(c.f, c.h) {
+    let f = c.f as usize;
+    let h = c.h as usize;
+    if binary::common::common(f, h) {
         return Checked::Refused(Refusal::CommonFactor);
     }
-    let u = binary::factor::degree(c.f);
-    if wrong_period(n, c.f, u) {
+    let u = binary::factor::degree(f);
+    if wrong_period(n, f, u) {
         return Checked::Refused(Refusal::Period);
     }
     if wrong_terms(n, c, zeros) {
         return Checked::Refused(Refusal::Term);
     }
-    Checked::Distance(distance(c.terms, u, binary::factor::degree(c.h)))
+    Checked::Distance(distance(c.terms as usize, u, binary::factor::degree(h)))
 }

@@ -1,9 +1,9 @@
-// A certificate taken from the sheet, held to its four rules in turn, and its distance; what it proves of the code (proofs).
+// A certificate held to its four rules in turn, and its distance; what it proves of the code (proofs).
 
-// a certificate, and what its check answers
+// what a certificate's check answers
 pub mod types;
 
-// a certificate read, and rule 1
+// rule 1
 pub mod range;
 
 // rules 3 and 4

@@ -4,9 +4,10 @@ ghost use mathlib.Core.Bool.{not};
 ghost use Prim.Native.Nat.{_+_, _*_, _/_, _%_, _<_};
 ghost use Rattle.field.specs.Mask.{_⊕_};
 ghost use Rattle.binary.specs.Factor.{coprime, period, Modulus};
-ghost use Rattle.certificate.specs.Rules.{Walkable, Ruled, certificateAs};
-use crate::types::Certificate;
+ghost use Rattle.sheet.specs.Stage.{certificateAs};
+ghost use Rattle.certificate.specs.Rules.{Walkable, Ruled};
 use field::order::step;
+use sheet::types::Certificate;
 
 // The register of h/f after one term: its lowest coefficient is the term, and f times it is taken off before the shift.
 pub fn next_register(f: usize, num: usize) -> usize
@@ -21,15 +22,15 @@ pub fn wrong_terms(n: usize, c: Certificate, zeros: &[u8]) -> bool
     requires { ⌜ Walkable n c (now zeros) ⌝ }
     ensures { λ r. ⌜ Ruled n (certificateAs c) (now (zeros .entry)) r ⌝ }
 {
-    let mut num = c.h;
-    let mut at = c.b;
+    let mut num = c.h as usize;
+    let mut at = c.b as usize;
     let mut j: usize = 0;
-    while j < c.terms {
+    while j < (c.terms as usize) {
         if (zeros[at] as usize) < num % 2 {
             return true;
         }
-        num = next_register(c.f, num);
-        at = step(n, at, c.z);
+        num = next_register(c.f as usize, num);
+        at = step(n, at, c.z as usize);
         j = j + 1;
     }
     false

@@ -1,5 +1,7 @@
--- Laws, in reading order: what an accepted sheet grants, the exits of the entries, and demand 2 in bytes.
+-- Laws, in reading order: what an accepted sheet of any kind states, judging in stages, the exits of the entries, what an accepted sheet
+-- of document 01's kind grants them, and demand 2 in bytes.
 pub mod Accepted
+pub mod Judging
 pub mod Entries
-pub mod CardEntries
+pub mod Ready
 pub mod RoundTrip

@@ -1,4 +1,4 @@
--- Demand 2 in bytes, in the words of the definitions alone: for every accepted sheet.
+-- Demand 2 in bytes, in the words of the definitions alone: for every accepted sheet of any kind.
 --
 --   Placed               places in bytes, as many as they take, with no spare bit; Message, Word: those of the sheet
 --   codewordOf, messageIn      the codeword of a message, and the message in a word, in bytes
@@ -18,7 +18,7 @@ use mathlib.Core.Path.{_≡_, refl, sym, ap, _∙_}
 use mathlib.Core.Logic.{_↔_}
 use mathlib.Core.Bool.{Bool, true, false, not}
 use mathlib.Core.List.{List, [], _∷_, _++_}
-use Prim.Native.Nat.{ℕ, zero, suc, _+_, _-_, _*_, _%_, _^_, _<_}
+use Prim.Native.Nat.{ℕ, zero, suc, _+_, _-_, _*_, _%_, _^_, _≤_, _<_}
 use native.Mathlib.Omega.{arith}
 use lib.ListN.{length, getD}
 use lib.Pow.{shr-shr}
@@ -30,21 +30,20 @@ use Rattle.cyclic.proofs.Places.{coefficient-above, coefficient-zero}
 use Rattle.document.specs.Answer.{returned, refused, Conditions, firstOf}
 use Rattle.document.specs.Layout.{wordWeight, messageWeight, bytesFor, place, maskOf, bytesOf, spare}
 use Rattle.document.specs.Coset.{inSet}
-use Rattle.document.specs.Sheet.{codeLength, representatives}
+use Rattle.document.specs.Sheet.{Stated, Kind, statedBy}
 use Rattle.document.specs.Generator.{valueAt, isCodeword, encodeMask, messageOf}
-use Rattle.document.specs.Judge.{judgeConditions, dimensionOf, judgeOf}
-use Rattle.document.specs.Entry.{wrongSize, generatorOf, wordOf, encodedWord, encodeOf, readConditions, readOf}
+use Rattle.document.specs.Judge.{judgeConditions, dimensionOf}
+use Rattle.document.specs.Entry.{wrongSize, generatorOf, wordOf, encodedWord, encodeEntry, readConditions, readEntry}
 use Rattle.document.proofs.Sane.{settle-number}
 use Rattle.document.proofs.Theory.{Length}
-use Rattle.document.proofs.Chain.{first-quiet, first-keep}
-use Rattle.document.proofs.Acceptance.{accepted-iff, judge-number, judge-le}
+use Rattle.document.proofs.Chain.{Quiet, first-quiet, first-keep}
+use Rattle.document.proofs.Acceptance.{judgeBy, accepted-iff, judge-number, judge-le}
 use Rattle.document.proofs.Demand2.{multiple-iff, defining-iff, representatives-iff, encode-is-codeword, encode-systematic, encode-checks, encode-lt, message-lt, codeword-is-encoding}
-use Rattle.sheet.proofs.Headed.{headed-length}
 use Rattle.codeword.proofs.Places.{Weights, word-weights, message-weights, mask-lt, mask-coefficient, for-le, spare-clear, bytes-length, bytes-place, bytes-lt, mask-of-bytes, bytes-of-mask}
-use Rattle.codeword.specs.Codewords.{Usable}
+use Rattle.codeword.specs.Codewords.{Usable, RemainderTested}
 use Rattle.binary.specs.Bits.{Holds}
-use Rattle.code.proofs.Accepted.{accepted}
-use Rattle.code.proofs.Entries.{encode-done, read-none, read-done}
+use Rattle.code.proofs.Accepted.{usable}
+use Rattle.code.proofs.Entries.{encode-accepted, read-accepted, encode-done, read-none, read-done}
 
 -- places of n in bytes: as many as they take, and no spare bit
 pub record Placed (weight : ℕ → ℕ) (n : ℕ) (bytes : List ℕ) : Type 0 where
@@ -62,18 +61,24 @@ placed-bytes {w} W n c h = record {
 no-places : Holds 0 []
 no-places = record { at = λ i. sym (coefficient-zero i) }
 
-module _ (sheet : List ℕ) where
+module _ (kind : Kind) (sheet : List ℕ) where
+  abbrev x : Stated
+  x = statedBy kind sheet
+
+  abbrev refusals : Conditions
+  refusals = judgeConditions kind sheet
+
   abbrev n : ℕ
-  n = codeLength sheet
+  n = x .n
 
   abbrev k : ℕ
-  k = dimensionOf sheet
+  k = dimensionOf x
 
   abbrev s : ℕ
   s = orderOfTwo n
 
   abbrev g : ℕ
-  g = generatorOf sheet
+  g = generatorOf x
 
   abbrev pub Message : List ℕ → Type 0
   Message = Placed messageWeight k
@@ -82,59 +87,64 @@ module _ (sheet : List ℕ) where
   Word = Placed wordWeight n
 
   abbrev pub codewordOf : List ℕ → List ℕ
-  codewordOf message = bytesOf wordWeight n (encodedWord sheet message)
+  codewordOf message = bytesOf wordWeight n (encodedWord x message)
 
   abbrev pub messageIn : List ℕ → List ℕ
-  messageIn word = bytesOf messageWeight k (messageOf (n - k) (wordOf sheet word))
+  messageIn word = bytesOf messageWeight k (messageOf (n - k) (wordOf x word))
 
-  module _ (e : judgeOf sheet .number ≡ 0) where
-    u : Usable sheet n k s
-    u = accepted sheet e
+  module _ (small : kind .mostPlaces ≤ 65535) (e : judgeBy kind sheet .number ≡ 0) where
+    u : Usable n k s (x .representatives)
+    u = usable kind sheet small (sym (judge-number kind sheet) ∙ e)
 
     l : Length n
-    l = headed-length (u .head)
+    l = u .coded .length-of
+
+    quiet : Quiet refusals
+    quiet = accepted-iff kind sheet .0 e
 
     -- ---- the theorems of masks, for this sheet
     is-codeword : (m : ℕ) → isCodeword (n - k) g (encodeMask (n - k) g m) ≡ true
     unfolding dimensionOf generatorOf
-    is-codeword m = encode-is-codeword l (representatives sheet) m
+    is-codeword m = encode-is-codeword l (x .representatives) m
 
     systematic : (m : ℕ) → messageOf (n - k) (encodeMask (n - k) g m) ≡ m
     unfolding dimensionOf generatorOf
-    systematic m = encode-systematic l (representatives sheet) m
+    systematic m = encode-systematic l (x .representatives) m
 
     low : (m : ℕ) → encodeMask (n - k) g m % 2 ^ (n - k) ≡ remainder (n - k) g (m * 2 ^ (n - k))
     unfolding dimensionOf generatorOf
-    low m = encode-checks l (representatives sheet) m
+    low m = encode-checks l (x .representatives) m
 
     mask-lt-n : (m : ℕ) → m < 2 ^ k → encodeMask (n - k) g m < 2 ^ n
     unfolding dimensionOf generatorOf
-    mask-lt-n m h = encode-lt l (representatives sheet) m h
+    mask-lt-n m h = encode-lt l (x .representatives) m h
 
     message-lt-k : (c : ℕ) → c < 2 ^ n → messageOf (n - k) c < 2 ^ k
     unfolding dimensionOf
-    message-lt-k c h = message-lt l (representatives sheet) c h
+    message-lt-k c h = message-lt l (x .representatives) c h
 
     back : (c : ℕ) → isCodeword (n - k) g c ≡ true → encodeMask (n - k) g (messageOf (n - k) c) ≡ c
     unfolding dimensionOf generatorOf
-    back c h = codeword-is-encoding l (representatives sheet) c h
+    back c h = codeword-is-encoding l (x .representatives) c h
 
-    encoded-lt : (message : List ℕ) → encodedWord sheet message < 2 ^ n
+    encoded-lt : (message : List ℕ) → encodedWord x message < 2 ^ n
     unfolding encodedWord
     encoded-lt message = mask-lt-n (maskOf messageWeight k message) (mask-lt messageWeight k message)
 
     -- ---- encoding
     pub encodes : {message : List ℕ} (out : List ℕ) → Message message → length out ≡ bytesFor n
-        → (returned (0 ∷ []), codewordOf message) ≡ encodeOf sheet message out
-    encodes {message} out m b = encode-done u message out (m .long) b (m .clear) refl
+        → (returned (0 ∷ []), codewordOf message) ≡ encodeEntry refusals x message out
+    unfolding encodedWord dimensionOf generatorOf
+    encodes {message} out m b =
+        encode-done u message out (m .long) b (m .clear) (record { is = refl }) .is x refl refl ∙ encode-accepted refusals x message out quiet
 
     pub codeword-word : (message : List ℕ) → Word (codewordOf message)
-    codeword-word message = placed-bytes word-weights n (encodedWord sheet message) (encoded-lt message)
+    codeword-word message = placed-bytes word-weights n (encodedWord x message) (encoded-lt message)
 
-    word-is : (message : List ℕ) → wordOf sheet (codewordOf message) ≡ encodedWord sheet message
-    word-is message = mask-of-bytes word-weights n (encodedWord sheet message) (encoded-lt message)
+    word-is : (message : List ℕ) → wordOf x (codewordOf message) ≡ encodedWord x message
+    word-is message = mask-of-bytes word-weights n (encodedWord x message) (encoded-lt message)
 
-    pub codeword-is : (message : List ℕ) → isCodeword (n - k) g (wordOf sheet (codewordOf message)) ≡ true
+    pub codeword-is : (message : List ℕ) → isCodeword (n - k) g (wordOf x (codewordOf message)) ≡ true
     unfolding encodedWord
     codeword-is message = ap (isCodeword (n - k) g) (word-is message) ∙ is-codeword (maskOf messageWeight k message)
 
@@ -143,39 +153,43 @@ module _ (sheet : List ℕ) where
         → place wordWeight (codewordOf message) (n - k + i) ≡ place messageWeight message i
     unfolding encodedWord messageOf
     codeword-place message i h =
-        bytes-place word-weights n (encodedWord sheet message) (n - k + i) (omega (arith, u .k-le, for-le n))
-        ∙ sym (ap (λ (x : ℕ). x % 2) (shr-shr (encodedWord sheet message) (n - k) i))
+        bytes-place word-weights n (encodedWord x message) (n - k + i) (omega (arith, u .k-le, for-le n))
+        ∙ sym (ap (λ (x : ℕ). x % 2) (shr-shr (encodedWord x message) (n - k) i))
         ∙ ap (coefficient i) (systematic (maskOf messageWeight k message)) ∙ mask-coefficient messageWeight k message i h
 
     -- and the places below n - k hold the remainder of x^(n-k) m(x) by the generator
     pub codeword-low : (message : List ℕ)
-        → wordOf sheet (codewordOf message) % 2 ^ (n - k) ≡ remainder (n - k) g (maskOf messageWeight k message * 2 ^ (n - k))
+        → wordOf x (codewordOf message) % 2 ^ (n - k) ≡ remainder (n - k) g (maskOf messageWeight k message * 2 ^ (n - k))
     unfolding encodedWord
     codeword-low message = ap (λ (x : ℕ). x % 2 ^ (n - k)) (word-is message) ∙ low (maskOf messageWeight k message)
 
     -- ---- what a codeword is
     pub codeword-multiple : (c : ℕ) → (isCodeword (n - k) g c ≡ true) ↔ ((q : ℕ) × (c ≡ clmul g q))
     unfolding dimensionOf generatorOf
-    codeword-multiple c = multiple-iff l (representatives sheet) c
+    codeword-multiple c = multiple-iff l (x .representatives) c
 
-    pub codeword-set : (c : ℕ) → (isCodeword (n - k) g c ≡ true) ↔ ((i : ℕ) → inSet n (representatives sheet) i ≡ true → valueAt s (fieldPower s (α s n) i) c ≡ 0)
+    pub codeword-set : (c : ℕ) → (isCodeword (n - k) g c ≡ true) ↔ ((i : ℕ) → inSet n (x .representatives) i ≡ true → valueAt s (fieldPower s (α s n) i) c ≡ 0)
     unfolding dimensionOf generatorOf
-    codeword-set c = defining-iff l (representatives sheet) c
+    codeword-set c = defining-iff l (x .representatives) c
 
-    pub codeword-representatives : (c : ℕ) → (isCodeword (n - k) g c ≡ true) ↔ All (λ r. valueAt s (fieldPower s (α s n) r) c ≡ 0) (representatives sheet)
+    pub codeword-representatives : (c : ℕ) → (isCodeword (n - k) g c ≡ true) ↔ All (λ r. valueAt s (fieldPower s (α s n) r) c ≡ 0) (x .representatives)
     unfolding dimensionOf generatorOf
-    codeword-representatives c = representatives-iff l (representatives sheet) c
+    codeword-representatives c = representatives-iff l (x .representatives) c
 
     -- ---- reading out
+    tested : (word : List ℕ) (r : Bool) → r ≡ not (isCodeword (n - k) g (wordOf x word)) → RemainderTested n (x .representatives) word [] r
+    unfolding dimensionOf generatorOf
+    tested word r q = record { is = q; clear = λ z. no-places }
+
     whole : n - k + k ≡ n
     whole = omega (arith, u .k-le)
 
-    pub reads : {word : List ℕ} (out : List ℕ) → Word word → length out ≡ bytesFor k → isCodeword (n - k) g (wordOf sheet word) ≡ true
-        → (returned (0 ∷ []), messageIn word) ≡ readOf sheet word out
+    pub reads : {word : List ℕ} (out : List ℕ) → Word word → length out ≡ bytesFor k → isCodeword (n - k) g (wordOf x word) ≡ true
+        → (returned (0 ∷ []), messageIn word) ≡ readEntry refusals x word out
     reads {word} out w b c =
-        read-done u word out (w .long) b (w .clear) {w = []} {r = false}
-        (record { is = sym (ap not c); clear = λ z. no-places }) refl
-        (record { is = ap (λ (x : ℕ). bytesOf messageWeight k (messageOf (n - k) (maskOf wordWeight x word))) (sym whole) })
+        read-done u word out (w .long) b (w .clear) {w = []} {r = false} (tested word false (sym (ap not c))) refl
+        (record { is = ap (λ (y : ℕ). bytesOf messageWeight k (messageOf (n - k) (maskOf wordWeight y word))) (sym whole) }) .is x refl refl
+        ∙ read-accepted refusals x word out quiet
 
     pub message-back : {message : List ℕ} → Message message → messageIn (codewordOf message) ≡ message
     unfolding encodedWord
@@ -184,7 +198,7 @@ module _ (sheet : List ℕ) where
         ∙ sym (bytes-of-mask message-weights k message (m .long) (m .small) (m .clear))
 
     pub read-back : {message : List ℕ} (out : List ℕ) → Message message → length out ≡ bytesFor k
-        → (returned (0 ∷ []), message) ≡ readOf sheet (codewordOf message) out
+        → (returned (0 ∷ []), message) ≡ readEntry refusals x (codewordOf message) out
     read-back {message} out m b =
         ap (λ (x : List ℕ). (returned (0 ∷ []), x)) (sym (message-back m)) ∙ reads out (codeword-word message) b (codeword-is message)
 
@@ -194,26 +208,26 @@ module _ (sheet : List ℕ) where
     -- ---- and back
     pub message-message : (word : List ℕ) → Message (messageIn word)
     message-message word =
-        placed-bytes message-weights k (messageOf (n - k) (wordOf sheet word)) (message-lt-k (wordOf sheet word) (mask-lt wordWeight n word))
+        placed-bytes message-weights k (messageOf (n - k) (wordOf x word)) (message-lt-k (wordOf x word) (mask-lt wordWeight n word))
 
-    pub encode-back : {word : List ℕ} → Word word → isCodeword (n - k) g (wordOf sheet word) ≡ true → codewordOf (messageIn word) ≡ word
+    pub encode-back : {word : List ℕ} → Word word → isCodeword (n - k) g (wordOf x word) ≡ true → codewordOf (messageIn word) ≡ word
     unfolding encodedWord
     encode-back {word} w c =
-        let m : ℕ = messageOf (n - k) (wordOf sheet word) in
+        let m : ℕ = messageOf (n - k) (wordOf x word) in
         ap (λ (x : ℕ). bytesOf wordWeight n (encodeMask (n - k) g x))
-        (mask-of-bytes message-weights k m (message-lt-k (wordOf sheet word) (mask-lt wordWeight n word)))
-        ∙ ap (bytesOf wordWeight n) (back (wordOf sheet word) c)
+        (mask-of-bytes message-weights k m (message-lt-k (wordOf x word) (mask-lt wordWeight n word)))
+        ∙ ap (bytesOf wordWeight n) (back (wordOf x word) c)
         ∙ sym (bytes-of-mask word-weights n word (w .long) (w .small) (w .clear))
 
-    pub none-refused : {word : List ℕ} (out : List ℕ) → Word word → length out ≡ bytesFor k → isCodeword (n - k) g (wordOf sheet word) ≡ false
-        → (refused 14, out) ≡ readOf sheet word out
+    pub none-refused : {word : List ℕ} (out : List ℕ) → Word word → length out ≡ bytesFor k → isCodeword (n - k) g (wordOf x word) ≡ false
+        → (refused 14, out) ≡ readEntry refusals x word out
     none-refused {word} out w b c =
-        read-none u word out (w .long) b (w .clear) {w = []} {r = true}
-        (record { is = sym (ap not c); clear = λ z. no-places }) refl
+        read-none u word out (w .long) b (w .clear) {w = []} {r = true} (tested word true (sym (ap not c))) refl .is x refl refl
+        ∙ read-accepted refusals x word out quiet
 
   -- ---- only such a word
   abbrev cond : List ℕ → List ℕ → Conditions
-  cond word out = readConditions sheet word out
+  cond word out = readConditions x word out
 
   last-one : (a b c d : Bool) → firstOf ((11, a) ∷ (11, b) ∷ (12, c) ∷ (14, d) ∷ []) ≡ 14
       → (a ≡ false) × (b ≡ false) × (c ≡ false) × (d ≡ true)
@@ -232,19 +246,19 @@ module _ (sheet : List ℕ) where
   not-true true e = sym e
   not-true false e = refl
 
-  read-number : (word out : List ℕ) → readOf sheet word out .0 .number ≡ firstOf (judgeConditions sheet ++ cond word out)
-  unfolding readOf
-  read-number word out = settle-number (firstOf (judgeConditions sheet ++ cond word out)) _ _ _
+  read-number : (word out : List ℕ) → readEntry refusals x word out .0 .number ≡ firstOf (refusals ++ cond word out)
+  unfolding readEntry
+  read-number word out = settle-number (firstOf (refusals ++ cond word out)) _ _ _
 
   -- what a word that is refused with 14 is
   pub record NotACodeword (word out : List ℕ) : Type 0 where
-    pub accepted-sheet : judgeOf sheet .number ≡ 0
+    pub accepted-sheet : judgeBy kind sheet .number ≡ 0
     pub word-long : length word ≡ bytesFor n
     pub out-long : length out ≡ bytesFor k
     pub clear : spare wordWeight n word ≡ false
-    pub none : isCodeword (n - k) g (wordOf sheet word) ≡ false
+    pub none : isCodeword (n - k) g (wordOf x word) ≡ false
 
-  conditions-last : (word out : List ℕ) → judgeOf sheet .number ≡ 0 → firstOf (cond word out) ≡ 14 → NotACodeword word out
+  conditions-last : (word out : List ℕ) → judgeBy kind sheet .number ≡ 0 → firstOf (cond word out) ≡ 14 → NotACodeword word out
   unfolding readConditions
   conditions-last word out z e =
       let r = last-one (wrongSize n word) (wrongSize k out) (spare wordWeight n word) _ e in
@@ -256,22 +270,24 @@ module _ (sheet : List ℕ) where
         none = not-true _ (r .3);
       }
 
-  pub refused-none : (word out : List ℕ) → readOf sheet word out .0 .number ≡ 14 → NotACodeword word out
-  refused-none word out e = go (firstOf (judgeConditions sheet)) refl
+  pub refused-none : (word out : List ℕ) → readEntry refusals x word out .0 .number ≡ 14 → NotACodeword word out
+  refused-none word out e = go (firstOf refusals) refl
     where
-      go : (r : ℕ) → firstOf (judgeConditions sheet) ≡ r → NotACodeword word out
+      go : (r : ℕ) → firstOf refusals ≡ r → NotACodeword word out
       go zero q =
-          let z : judgeOf sheet .number ≡ 0 = judge-number sheet ∙ q in
-          conditions-last word out z (sym (first-quiet (cond word out) (accepted-iff sheet .0 z)) ∙ sym (read-number word out) ∙ e)
+          let z : judgeBy kind sheet .number ≡ 0 = judge-number kind sheet ∙ q in
+          conditions-last word out z (sym (first-quiet (cond word out) (accepted-iff kind sheet .0 z)) ∙ sym (read-number word out) ∙ e)
       go (suc r) q =
-          let x : firstOf (judgeConditions sheet ++ cond word out) ≡ suc r = first-keep (judgeConditions sheet) (cond word out) r q in
-          let y : readOf sheet word out .0 .number ≡ suc r = read-number word out ∙ x in
-          absurd (omega (arith, judge-le sheet, q, y, e))
+          let f : firstOf (refusals ++ cond word out) ≡ suc r = first-keep refusals (cond word out) r q in
+          let y : readEntry refusals x word out .0 .number ≡ suc r = read-number word out ∙ f in
+          absurd (omega (arith, judge-le kind sheet, q, y, e))
 
-  pub fourteen-iff : (word out : List ℕ) → (readOf sheet word out .0 .number ≡ 14) ↔ NotACodeword word out
-  fourteen-iff word out = (
+  pub fourteen-iff : kind .mostPlaces ≤ 65535 → (word out : List ℕ)
+      → (readEntry refusals x word out .0 .number ≡ 14) ↔ NotACodeword word out
+  fourteen-iff small word out = (
     refused-none word out,
-    λ x. sym (ap (λ y. y .0 .number)
-        (read-none (accepted sheet (x .accepted-sheet)) word out (x .word-long) (x .out-long) (x .clear) {w = []} {r = true}
-        (record { is = sym (ap not (x .none)); clear = λ z. no-places }) refl)),
+    λ v. sym (ap (λ y. y .0 .number)
+        (read-none (u small (v .accepted-sheet)) word out (v .word-long) (v .out-long) (v .clear) {w = []} {r = true}
+        (tested small (v .accepted-sheet) word true (sym (ap not (v .none)))) refl .is x refl refl
+        ∙ read-accepted refusals x word out (quiet small (v .accepted-sheet)))),
   )

@@ -1,53 +1,71 @@
 // The listing of a sheet, from its record where it is accepted.
 ghost use mathlib.Core.Path.{_≡_};
-ghost use mathlib.Core.List.{[], _∷_};
+ghost use mathlib.Core.List.{[]};
 ghost use lib.ListN.{length};
-ghost use Rattle.document.specs.Answer.{returned, repliedAs};
-ghost use Rattle.document.specs.Card.{cardOf};
-ghost use Rattle.document.specs.Sheet.{representatives};
+ghost use Rattle.document.specs.Answer.{repliedAs};
+ghost use Rattle.document.specs.Short.{cardOf};
 ghost use Rattle.sheet.specs.Stage.{Marks};
-ghost use Rattle.codeword.specs.Codewords.{Usable, Recorded};
-ghost use Rattle.code.specs.Listing.{Markable};
-use crate::judge::judge;
+ghost use Rattle.codeword.specs.Codewords.{Coded};
+ghost use Rattle.code.specs.Stating.{CardListable, CardListed};
+use crate::judged::judge_into;
 use crate::refusal::refusal_number;
-use codeword::test::sheet_generator;
 use document::types::Judged;
 use document::types::Refusal;
 use document::types::Reply;
 use listing::page::write_accepted;
 use listing::page::write_refused;
 use sheet::cosets::wrong_representative;
-use sheet::header::byte;
+use sheet::read::read_certificates;
+use sheet::read::representative_count;
 
 // D of an accepted sheet marked in place of zeros.
-fn mark_set(sheet: &[u8], n: usize, s: usize, zeros: &mut [u8])
-    requires { ⌜ Markable (now sheet) n s (now zeros) ⌝ }
-    ensures { λ _. ⌜ Marks n (representatives (now (sheet .entry))) (now (zeros .exit)) ⌝ }
+fn mark_set(n: usize, s: usize, representatives: &[u16], zeros: &mut [u8])
+    requires { ⌜ Coded n s (now representatives) × Marks n [] (now zeros) ⌝ }
+    ensures { λ _. ⌜ Marks n (now (representatives .entry)) (now (zeros .exit)) ⌝ }
 {
-    wrong_representative(sheet, n, s, byte(sheet, 3), zeros);
+    wrong_representative(n, s, representatives, zeros);
 }
 
-// The listing of an accepted sheet with its record's numbers.
+// The listing of what an accepted sheet states, with its record's numbers and its certificates.
 fn card_accepted(
-    sheet: &[u8],
     n: usize,
     k: usize,
     s: usize,
     working: usize,
     t: usize,
+    representatives: &[u16],
+    certificates: &[u16],
+    count: usize,
     out: &mut [u8],
 ) -> usize
-    requires { ⌜ Usable (now sheet) n k s × Recorded (now sheet) working t × (length (now out) ≡ 1024) ⌝ }
-    ensures { λ r. ⌜ (returned (r ∷ []), now (out .exit)) ≡ cardOf (now (sheet .entry)) (now (out .entry)) ⌝ }
+    requires { ⌜ CardListable n k s working t (now representatives) count (now certificates) × (length (now out) ≡ 1024) ⌝ }
+    ensures { λ r. ⌜ CardListed n k s working t (now (representatives .entry)) count (now (certificates .entry)) (now (out .entry)) (now (out .exit)) r ⌝ }
 {
-    let mut zeros = [0u8; 128];
-    let mut generator = [0u8; 144];
+    let mut generator = [0u8; 128];
     let mut factor = [0u16; 16];
     let mut bits = [0u8; 144];
     generator[0] = 1;
-    mark_set(sheet, n, s, &mut zeros);
-    sheet_generator(sheet, n, k, s, &mut generator, &mut factor, &mut bits);
-    write_accepted(sheet, n, k, s, working, t, &zeros, &generator, out)
+    generator::generator::generator(
+        representatives,
+        n,
+        s,
+        &mut generator,
+        &mut factor,
+        &mut bits,
+    );
+    mark_set(n, s, representatives, &mut bits);
+    write_accepted(
+        n,
+        k,
+        s,
+        working,
+        t,
+        certificates,
+        count,
+        &bits,
+        &generator,
+        out,
+    )
 }
 
 // The listing of any sheet, refused ones too, into a lent buffer of 1,024 bytes, which holds every listing; its length.
@@ -57,17 +75,25 @@ pub fn card(sheet: &[u8], out: &mut [u8]) -> Reply
     if out.len() != 1024 {
         return Reply::Refused(Refusal::BufferLength);
     }
-    let judged = judge(sheet);
+    let mut representatives = [0u16; 32];
+    let judged = judge_into(sheet, &mut representatives);
     match judged {
         Judged::Refused(r) => Reply::Done(write_refused(refusal_number(r), out)),
-        Judged::Accepted(a) => Reply::Done(card_accepted(
-            sheet,
-            a.n,
-            a.k,
-            a.s,
-            a.working,
-            a.t,
-            out,
-        )),
+        Judged::Accepted(a) => {
+            let mut certificates = [0u16; 24];
+            let certificate_count = read_certificates(sheet, &mut certificates);
+            let count = representative_count(sheet);
+            Reply::Done(card_accepted(
+                a.n as usize,
+                a.k as usize,
+                a.s as usize,
+                a.working as usize,
+                a.t as usize,
+                &representatives[..count],
+                &certificates,
+                certificate_count,
+                out,
+            ))
+        }
     }
 }

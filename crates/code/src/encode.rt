@@ -1,27 +1,32 @@
 // Encoding: 11 and 12 for an accepted sheet, then the message in the high places and the remainder below.
 ghost use mathlib.Core.Path.{_≡_};
+ghost use mathlib.Core.List.{[]};
+ghost use Prim.Native.Nat.{_≤_};
 ghost use Rattle.document.specs.Answer.{repliedAs};
-ghost use Rattle.document.specs.Entry.{encodeOf};
+ghost use Rattle.document.specs.Entry.{encodeEntry};
+ghost use Rattle.document.specs.Short.{encodeOf};
 ghost use Rattle.codeword.specs.Codewords.{Usable};
-use crate::judge::judge;
+ghost use Rattle.code.specs.Stating.{Stating};
+use crate::judged::judge_into;
 use codeword::layout::bytes_for;
 use codeword::layout::spare_message;
 use codeword::write::write_codeword;
 use document::types::Judged;
 use document::types::Refusal;
 use document::types::Reply;
+use sheet::read::representative_count;
 
 // Refusals 11 and 12, and the codeword where none is drawn.
 fn encode_accepted(
-    sheet: &[u8],
     n: usize,
     k: usize,
     s: usize,
+    representatives: &[u16],
     message: &[u8],
     out: &mut [u8],
 ) -> Reply
-    requires { ⌜ Usable (now sheet) n k s ⌝ }
-    ensures { λ r. ⌜ (repliedAs r, now (out .exit)) ≡ encodeOf (now (sheet .entry)) (now (message .entry)) (now (out .entry)) ⌝ }
+    requires { ⌜ Usable n k s (now representatives) × (n ≤ 127) ⌝ }
+    ensures { λ r. ⌜ Stating n (now (representatives .entry)) (λ x. encodeEntry [] x (now (message .entry)) (now (out .entry))) (repliedAs r, now (out .exit)) ⌝ }
 {
     if message.len() != bytes_for(k) {
         return Reply::Refused(Refusal::BufferLength);
@@ -32,12 +37,12 @@ fn encode_accepted(
     if spare_message(k, message) {
         return Reply::Refused(Refusal::SpareBit);
     }
-    let mut generator = [0u8; 144];
+    let mut generator = [0u8; 128];
     let mut factor = [0u16; 16];
     let mut bits = [0u8; 144];
     generator[0] = 1;
     write_codeword(
-        sheet,
+        representatives,
         n,
         k,
         s,
@@ -54,9 +59,20 @@ fn encode_accepted(
 pub fn encode(sheet: &[u8], message: &[u8], out: &mut [u8]) -> Reply
     ensures { λ r. ⌜ (repliedAs r, now (out .exit)) ≡ encodeOf (now (sheet .entry)) (now (message .entry)) (now (out .entry)) ⌝ }
 {
-    let judged = judge(sheet);
+    let mut representatives = [0u16; 32];
+    let judged = judge_into(sheet, &mut representatives);
     match judged {
         Judged::Refused(r) => Reply::Refused(r),
-        Judged::Accepted(a) => encode_accepted(sheet, a.n, a.k, a.s, message, out),
+        Judged::Accepted(a) => {
+            let count = representative_count(sheet);
+            encode_accepted(
+                a.n as usize,
+                a.k as usize,
+                a.s as usize,
+                &representatives[..count],
+                message,
+                out,
+            )
+        }
     }
 }

@@ -3,6 +3,9 @@
 // document 01's numbers of refusals
 pub mod refusal;
 
+// every entry's first step
+mod judged;
+
 // a sheet to its record
 pub mod judge;
 

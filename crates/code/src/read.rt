@@ -1,9 +1,13 @@
 // Reading out: 11, 12 and 14 for an accepted sheet, then the message in the high places of a codeword.
 ghost use mathlib.Core.Path.{_≡_};
+ghost use mathlib.Core.List.{[]};
+ghost use Prim.Native.Nat.{_≤_};
 ghost use Rattle.document.specs.Answer.{repliedAs};
-ghost use Rattle.document.specs.Entry.{readOf};
+ghost use Rattle.document.specs.Entry.{readEntry};
+ghost use Rattle.document.specs.Short.{readOf};
 ghost use Rattle.codeword.specs.Codewords.{Usable};
-use crate::judge::judge;
+ghost use Rattle.code.specs.Stating.{Stating};
+use crate::judged::judge_into;
 use codeword::layout::bytes_for;
 use codeword::layout::spare_word;
 use codeword::test::no_codeword;
@@ -11,11 +15,19 @@ use codeword::write::write_message;
 use document::types::Judged;
 use document::types::Refusal;
 use document::types::Reply;
+use sheet::read::representative_count;
 
 // Refusals 11, 12 and 14, and the message where none is drawn.
-fn read_accepted(sheet: &[u8], n: usize, k: usize, s: usize, word: &[u8], out: &mut [u8]) -> Reply
-    requires { ⌜ Usable (now sheet) n k s ⌝ }
-    ensures { λ r. ⌜ (repliedAs r, now (out .exit)) ≡ readOf (now (sheet .entry)) (now (word .entry)) (now (out .entry)) ⌝ }
+fn read_accepted(
+    n: usize,
+    k: usize,
+    s: usize,
+    representatives: &[u16],
+    word: &[u8],
+    out: &mut [u8],
+) -> Reply
+    requires { ⌜ Usable n k s (now representatives) × (n ≤ 127) ⌝ }
+    ensures { λ r. ⌜ Stating n (now (representatives .entry)) (λ x. readEntry [] x (now (word .entry)) (now (out .entry))) (repliedAs r, now (out .exit)) ⌝ }
 {
     if word.len() != bytes_for(n) {
         return Reply::Refused(Refusal::BufferLength);
@@ -26,11 +38,19 @@ fn read_accepted(sheet: &[u8], n: usize, k: usize, s: usize, word: &[u8], out: &
     if spare_word(n, word) {
         return Reply::Refused(Refusal::SpareBit);
     }
-    let mut generator = [0u8; 144];
+    let mut generator = [0u8; 128];
     let mut factor = [0u16; 16];
     let mut bits = [0u8; 144];
     generator[0] = 1;
-    if no_codeword(sheet, n, k, s, word, &mut generator, &mut factor, &mut bits) {
+    if no_codeword(
+        representatives,
+        n,
+        s,
+        word,
+        &mut generator,
+        &mut factor,
+        &mut bits,
+    ) {
         return Reply::Refused(Refusal::NoCodeword);
     }
     write_message(word, n - k, k, &mut bits, out);
@@ -41,9 +61,20 @@ fn read_accepted(sheet: &[u8], n: usize, k: usize, s: usize, word: &[u8], out: &
 pub fn read(sheet: &[u8], word: &[u8], out: &mut [u8]) -> Reply
     ensures { λ r. ⌜ (repliedAs r, now (out .exit)) ≡ readOf (now (sheet .entry)) (now (word .entry)) (now (out .entry)) ⌝ }
 {
-    let judged = judge(sheet);
+    let mut representatives = [0u16; 32];
+    let judged = judge_into(sheet, &mut representatives);
     match judged {
         Judged::Refused(r) => Reply::Refused(r),
-        Judged::Accepted(a) => read_accepted(sheet, a.n, a.k, a.s, word, out),
+        Judged::Accepted(a) => {
+            let count = representative_count(sheet);
+            read_accepted(
+                a.n as usize,
+                a.k as usize,
+                a.s as usize,
+                &representatives[..count],
+                word,
+                out,
+            )
+        }
     }
 }

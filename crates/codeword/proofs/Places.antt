@@ -10,19 +10,20 @@
 --   places-ext             lists of bytes with the same places are equal
 --   bytes-same, bytes-unique       bytes whose places are those of a mask, or those and 0 from n on, are its bytes
 --   spare-none, spare-clear, spare-one      no spare bit: all places from n on are 0
+--   places-length, places-at, places-hold   all places of a word's bytes, and the mask that they are
 use mathlib.Core.Path.{_≡_, refl, sym, ap, ap₂, _∙_, subst}
 use mathlib.Core.Logic.{_≢_, _⊎_, inl, inr}
 use mathlib.Core.Bool.{Bool, true, false}
-use mathlib.Core.List.{List, [], _∷_, _++_, map}
-use Prim.Native.Nat.{ℕ, zero, suc, _+_, _-_, _*_, _/_, _%_, _^_, _≤_, _<_}
+use mathlib.Core.List.{List}
+use Prim.Native.Nat.{ℕ, _+_, _-_, _*_, _/_, _%_, _^_, _≤_, _<_}
 use native.Mathlib.Nat.{one-mul}
 use native.Mathlib.Decide.{ℕ-discrete}
 use native.Mathlib.Omega.{arith}
 use lib.Dec.{eqb}
 use lib.Bits.{bitOr, bitAnd, and-mask}
-use lib.ListN.{length, getD, set, length-set, length-map, List·getD-append, List·getD-eq-default}
+use lib.ListN.{length, getD, set, length-set, length-map, List·getD-eq-default}
 use lib.Pow.{shl-exact}
-use lib.Seq.{getD-set-same, getD-set-other, getD-at, ext-getD}
+use lib.Seq.{getD-set-same, getD-set-other, ext-getD}
 use borrow.Author.Tests.{eqb-false, eq-eqb, ne-eqb}
 use Rattle.algebra.proofs.Poly.{le-or-lt}
 use Rattle.field.specs.Search.{upTo, total}
@@ -31,7 +32,9 @@ use Rattle.field.proofs.Search.{some-none, some-false, some-of, length-upTo, to
 use Rattle.field.proofs.Xor.{digit-lt}
 use Rattle.cyclic.proofs.Places.{coefficient-above, same-places}
 use Rattle.document.specs.Layout.{wordWeight, messageWeight, bytesFor, place, maskOf, byteOf, bytesOf, spare}
-use Rattle.codeword.specs.Place.{Put}
+use Rattle.document.proofs.Stated.{tabulated-at, tabulated-length}
+use Rattle.binary.specs.Bits.{Holds}
+use Rattle.codeword.specs.Place.{Put, placesOf}
 use Rattle.binary.proofs.Digits.{put-same, put-other, sum-at, sum-lt}
 
 -- place i is digit `shift (i mod 8)` of its byte, and digit e that of the place `back e` in the byte
@@ -69,22 +72,6 @@ word-weights = low-first word-is
 
 abbrev pub message-weights : Weights messageWeight
 message-weights = low-first message-is
-
--- ---- lists
-map-at : (f : ℕ → ℕ) (l : List ℕ) (k d e : ℕ) → k < length l → getD (map f l) k e ≡ f (getD l k d)
-map-at f [] k d e h = absurd (omega arith)
-map-at f (x ∷ l) zero d e h = refl
-map-at f (x ∷ l) (suc k) d e h = map-at f l k d e (omega arith)
-
-upTo-at : (n k d : ℕ) → k < n → getD (upTo n) k d ≡ k
-unfolding upTo
-upTo-at zero k d h = absurd (omega arith)
-upTo-at (suc n) k d h = elim (ℕ-discrete k n) [
-  | yes e ↦ ap (λ (x : ℕ). getD (upTo n ++ (n ∷ [])) x d) e ∙ getD-at (upTo n) n [] d n (length-upTo n) ∙ sym e
-  | no e ↦
-      (let l : k < n = omega arith in
-      List·getD-append (upTo n) (n ∷ []) d k (omega (arith, length-upTo n)) ∙ upTo-at n k d l)
-]
 
 pub place-lt : (w : ℕ → ℕ) (l : List ℕ) (i : ℕ) → place w l i < 2
 unfolding place
@@ -143,8 +130,7 @@ bytes-length w n mask = length-map (upTo (bytesFor n)) (byteOf w mask) ∙ lengt
 bytes-at : (w : ℕ → ℕ) (n mask k : ℕ) → k < bytesFor n → getD (bytesOf w n mask) k 0 ≡ byteOf w mask k
 unfolding bytesOf
 bytes-at w n mask k h =
-    map-at (byteOf w mask) (upTo (bytesFor n)) k 0 0 (omega (arith, length-upTo (bytesFor n)))
-    ∙ ap (byteOf w mask) (upTo-at (bytesFor n) k 0 h)
+    tabulated-at (byteOf w mask) (bytesFor n) k 0 h
 
 module _ {w : ℕ → ℕ} (W : Weights w) where
   apart : (i j : ℕ) → i < 8 → j < 8 → W .shift i ≡ W .shift j → i ≡ j
@@ -290,3 +276,25 @@ module _ {w : ℕ → ℕ} (W : Weights w) where
   bytes-of-mask n l long bytes clear =
       bytes-unique n (maskOf w n l) l long bytes (mask-lt w n l)
       (λ i h. sym (mask-coefficient w n l i h)) (spare-none w n l clear)
+
+-- ---- all places of a word's bytes
+pub places-length : (word : List ℕ) → length (placesOf word) ≡ length word * 8
+unfolding placesOf
+places-length word = tabulated-length (place wordWeight word) (length word * 8)
+
+pub places-at : (word : List ℕ) (i : ℕ) → i < length word * 8 → getD (placesOf word) i 0 ≡ place wordWeight word i
+unfolding placesOf
+places-at word i h = tabulated-at (place wordWeight word) (length word * 8) i 0 h
+
+pub places-hold : (n : ℕ) (word : List ℕ) → length word ≡ bytesFor n → spare wordWeight n word ≡ false
+    → Holds (maskOf wordWeight n word) (placesOf word)
+places-hold n word a d = record { at = λ i. go i (le-or-lt (length word * 8) i) (le-or-lt n i) }
+  where
+    go : (i : ℕ) → (length word * 8 ≤ i) ⊎ (i < length word * 8) → (n ≤ i) ⊎ (i < n)
+        → getD (placesOf word) i 0 ≡ coefficient i (maskOf wordWeight n word)
+    go i (inl h) k =
+        List·getD-eq-default (placesOf word) 0 (omega (arith, places-length word))
+        ∙ sym (mask-above wordWeight n word i (omega (arith, a, for-le n)))
+    go i (inr h) (inl k) =
+        places-at word i h ∙ spare-none wordWeight n word d i k (omega (arith, a)) ∙ sym (mask-above wordWeight n word i k)
+    go i (inr h) (inr k) = places-at word i h ∙ sym (mask-coefficient wordWeight n word i k)

@@ -1,14 +1,13 @@
 -- From the parts of a word's journey to the definitions: generator, codeword test, encoding, reading out.
 --
---   length-of, lengths-of, part-end, part-is, part-rising, generator-is, checks-is, generated      the sheet's generator
---   degree-one, remainder-lt      it has degree m, and remainders by it have m places
---   word-holds           the places of a word
+--   lengths-of, checks-is, checks-le, whole      the generator's degree m
+--   degree-one, remainder-lt      it is of degree m, and remainders by it have m places
 --   tested               the remainder of a word tells whether it is a codeword
 --   encoded              message, division, message again: the places of the codeword
 --   encoded-bytes, message-read      and packed into bytes
 --   for-most             bytes have fewer than eight spare places
 --   zeros, fresh         arrays as the entries make them
-use mathlib.Core.Path.{_≡_, refl, sym, ap, ap₂, _∙_, subst}
+use mathlib.Core.Path.{_≡_, refl, sym, ap, _∙_, subst}
 use mathlib.Core.Logic.{_⊎_, inl, inr}
 use mathlib.Core.Bool.{Bool, true, false, not}
 use mathlib.Core.List.{List}
@@ -16,7 +15,7 @@ use Prim.Native.Nat.{ℕ, zero, suc, _+_, _-_, _*_, _/_, _^_, _≤_, _<_}
 use native.Mathlib.Nat.{add-zero, div-one}
 use native.Mathlib.Omega.{arith}
 use lib.Dec.{eqb}
-use lib.ListN.{length, getD, set, take, drop, replicate, length-replicate, getD-replicate, List·getD-eq-default}
+use lib.ListN.{length, getD, set, replicate, length-set, length-replicate, getD-replicate, List·getD-eq-default}
 use lib.Pow.{pow-pos, shl-lt}
 use lib.Seq.{getD-set-same, getD-set-other}
 use borrow.Author.Tests.{eqb-true}
@@ -25,104 +24,61 @@ use Rattle.field.specs.Mask.{coefficient, remainder}
 use Rattle.cyclic.proofs.Division.{divide}
 use Rattle.cyclic.proofs.Places.{coefficient-zero, coefficient-s}
 use Rattle.document.specs.Layout.{wordWeight, messageWeight, bytesFor, maskOf, bytesOf}
-use Rattle.document.specs.Sheet.{byteAt, codeLength, representativeCount, representatives}
 use Rattle.document.specs.Coset.{dimension}
 use Rattle.document.specs.Generator.{generator, isCodeword, encodeMask, messageOf}
-use Rattle.document.specs.Judge.{dimensionOf}
-use Rattle.document.specs.Entry.{generatorOf, wordOf, encodedWord}
 use Rattle.document.proofs.Sane.{set-size}
-use Rattle.document.proofs.Theory.{Length}
 use Rattle.document.proofs.GeneratorIs.{generator-degree}
-use Rattle.sheet.proofs.Headed.{headed-length}
 use Rattle.binary.specs.Bits.{Holds, Divided, Any}
-use Rattle.generator.specs.Building.{Rising, Lengths, Building}
+use Rattle.generator.specs.Building.{Lengths, Building}
 use Rattle.codeword.specs.Place.{Spread, Packed}
 use Rattle.codeword.proofs.Places.{word-weights, message-weights, mask-lt}
 use Rattle.codeword.proofs.Spreading.{spread-part, spread-shifted, packed-is}
-use Rattle.codeword.specs.Codewords.{Usable, Fresh, Generated, RemainderTested, Encoded, MessageRead}
+use Rattle.codeword.specs.Codewords.{Coded, Usable, Fresh, RemainderTested, Encoded, CodewordWritten, MessageRead}
 
--- ---- the generator
-module _ {sheet : List ℕ} {n k s : ℕ} (u : Usable sheet n k s) where
-  pub length-of : Length n
-  length-of = subst Length (sym (u .n-is)) (headed-length (u .head))
+-- ---- the generator, of degree m
+pub lengths-of : {n s : ℕ} {reps : List ℕ} → Coded n s reps → Lengths n s
+lengths-of u = record { odd = u .length-of .odd; s-is = u .s-is; small = omega (arith, u .s-is, u .length-of .most) }
 
-  pub lengths-of : Lengths n s
-  lengths-of = record { odd = length-of .odd; s-is = u .s-is; small = omega (arith, u .s-is, length-of .most) }
+pub dimension-le : (n : ℕ) (reps : List ℕ) → dimension n reps ≤ n
+unfolding dimension
+dimension-le n reps = omega arith
 
-  count-is : {r : ℕ} → r ≡ byteAt sheet 3 → r ≡ representativeCount sheet
-  unfolding representativeCount
-  count-is e = e
+module _ {n s : ℕ} {reps : List ℕ} (u : Coded n s reps) {m : ℕ} {g w : List ℕ} (b : Building n m reps g w) where
+  pub checks-is : m ≡ n - dimension n reps
+  checks-is = b .degree-is ∙ sym (set-size n reps)
 
-  pub part-end : {r : ℕ} → r ≡ byteAt sheet 3 → 10 + r ≤ length sheet
-  part-end e = omega (arith, count-is e, u .head .long)
+  pub checks-le : m ≤ n
+  checks-le = omega (arith, checks-is)
 
-  pub part-is : {r : ℕ} → r ≡ byteAt sheet 3 → take (10 + r - 10) (drop 10 sheet) ≡ representatives sheet
-  unfolding representatives
-  part-is {r} e =
-      let q : 10 + r - 10 ≡ representativeCount sheet = omega (arith, count-is e) in ap (λ (x : ℕ). take x (drop 10 sheet)) q
+  pub whole : {k : ℕ} → k ≡ dimension n reps → m + k ≡ n
+  whole e = omega (arith, checks-is, dimension-le n reps)
 
-  pub part-rising : {r : ℕ} → r ≡ byteAt sheet 3 → Rising n (take (10 + r - 10) (drop 10 sheet))
-  part-rising e = subst (Rising n) (sym (part-is e)) (u .rising)
+  pub degree-one : generator n reps / 2 ^ m ≡ 1
+  degree-one = ap (λ (y : ℕ). generator n reps / 2 ^ y) checks-is ∙ generator-degree (u .length-of) reps
 
-  pub generator-is : generator n (representatives sheet) ≡ generatorOf sheet
-  unfolding generatorOf
-  generator-is = ap (λ (m : ℕ). generator m (representatives sheet)) (u .n-is)
+  remainder-lt : (c : ℕ) → remainder m (generator n reps) c < 2 ^ m
+  remainder-lt c = divide m (generator n reps) degree-one c .small
 
-  pub checks-is : n - dimension n (representatives sheet) ≡ n - dimensionOf sheet
-  unfolding dimensionOf
-  checks-is = ap (λ (m : ℕ). n - dimension m (representatives sheet)) (u .n-is)
+  -- ---- the test
+  codeword-is : (c : ℕ) → isCodeword (n - dimension n reps) (generator n reps) c ≡ eqb (remainder m (generator n reps) c) 0
+  unfolding isCodeword
+  codeword-is c = ap (λ (x : ℕ). eqb (remainder x (generator n reps) c) 0) (sym checks-is)
 
-  pub generated : {r m : ℕ} {g w : List ℕ} → r ≡ byteAt sheet 3 → Building n m (take (10 + r - 10) (drop 10 sheet)) g w
-      → Generated sheet n m g w
-  generated {r} {m} {g} {w} e b =
-      let c = subst (λ (reps : List ℕ). Building n m reps g w) (part-is e) b in
+  pub tested : {word w₁ w₂ : List ℕ} {r : Bool} → Spread wordWeight 0 0 n word w w₁ → Divided n m g w₁ w₂ → Any m w₂ r
+      → RemainderTested n reps word w₂ r
+  tested {word} {w₁} {w₂} {r} a d y =
+      let c : ℕ = maskOf wordWeight n word in
+      let h : Holds c w₁ = subst (λ (x : ℕ). Holds x w₁) (div-one c) (spread-part {from = 0} {count = n} (omega arith) a (b .clear)) in
+      let held = d .holds (b .holds) degree-one h (mask-lt wordWeight n word) in
+      let is = y .holds held (remainder-lt c) in
       record {
-        holds = subst (λ (x : ℕ). Holds x g) generator-is (c .holds);
-        degree-is = c .degree-is ∙ sym (set-size n (representatives sheet)) ∙ checks-is;
-        clear = c .clear;
+        is = is ∙ ap not (sym (codeword-is c));
+        clear = λ e. subst (λ (x : ℕ). Holds x w₂) (eqb-true (remainder m (generator n reps) c) 0 (not-not _ (sym is ∙ e))) held;
       }
-
-  module _ {m : ℕ} {g w : List ℕ} (t : Generated sheet n m g w) where
-    pub checks-le : m ≤ n
-    checks-le = omega (arith, t .degree-is)
-
-    pub whole : m + k ≡ n
-    whole = omega (arith, t .degree-is, u .k-is, u .k-le)
-
-    pub degree-one : generatorOf sheet / 2 ^ m ≡ 1
-    degree-one =
-        ap₂ (λ (x y : ℕ). x / 2 ^ y) (sym generator-is) (t .degree-is ∙ sym checks-is) ∙ generator-degree length-of (representatives sheet)
-
-    remainder-lt : (b : ℕ) → remainder m (generatorOf sheet) b < 2 ^ m
-    remainder-lt b = divide m (generatorOf sheet) degree-one b .small
-
-    -- ---- the test
-    codeword-is : (c : ℕ) → isCodeword (codeLength sheet - dimensionOf sheet) (generatorOf sheet) c ≡ eqb (remainder m (generatorOf sheet) c) 0
-    unfolding isCodeword
-    codeword-is c =
-        ap (λ (x : ℕ). eqb (remainder x (generatorOf sheet) c) 0) (sym (t .degree-is ∙ ap (λ (x : ℕ). x - dimensionOf sheet) (u .n-is)))
-
-    pub tested : {word w₁ w₂ : List ℕ} {r : Bool} → Spread wordWeight 0 0 n word w w₁ → Divided n m g w₁ w₂ → Any m w₂ r
-        → RemainderTested sheet word w₂ r
-    tested {word} {w₁} {w₂} {r} a d y =
-        let c : ℕ = maskOf wordWeight n word in
-        let h : Holds c w₁ = subst (λ (x : ℕ). Holds x w₁) (div-one c) (spread-part {from = 0} {count = n} (omega arith) a (t .clear)) in
-        let held = d .holds (t .holds) degree-one h (mask-lt wordWeight n word) in
-        let is = y .holds held (remainder-lt c) in
-        let same : c ≡ wordOf sheet word = ap (λ (x : ℕ). maskOf wordWeight x word) (u .n-is) in
-        record {
-          is = is ∙ ap not (sym (codeword-is c)) ∙ ap (λ (x : ℕ). not (isCodeword (codeLength sheet - dimensionOf sheet) (generatorOf sheet) x)) same;
-          clear = λ e. subst (λ (x : ℕ). Holds x w₂) (eqb-true (remainder m (generatorOf sheet) c) 0 (not-not _ (sym is ∙ e))) held;
-        }
-      where
-        not-not : (b : Bool) → not b ≡ false → b ≡ true
-        not-not true e = refl
-        not-not false e = sym e
-
--- ---- a word's places
-pub word-holds : (n : ℕ) {word w w₁ : List ℕ} → Spread wordWeight 0 0 n word w w₁ → Holds 0 w → Holds (maskOf wordWeight n word) w₁
-word-holds n {word} {w} {w₁} a z =
-    subst (λ (x : ℕ). Holds x w₁) (div-one (maskOf wordWeight n word)) (spread-part {from = 0} {count = n} (omega arith) a z)
+    where
+      not-not : (b : Bool) → not b ≡ false → b ≡ true
+      not-not true e = refl
+      not-not false e = sym e
 
 -- ---- encoding
 pub encoded : {n k m : ℕ} {message g w w₁ w₂ w₃ : List ℕ} → m + k ≡ n → Spread messageWeight 0 m k message w w₁ → Divided n m g w₁ w₂
@@ -137,23 +93,16 @@ encoded {n} {k} {m} {message} {g} {w} {w₁} {w₂} {w₃} e a d b = record {
       spread-shifted b (d .holds hf q h lt) (divide m f q (c * 2 ^ m) .small);
 }
 
-encoded-is : {sheet : List ℕ} (message : List ℕ) {n k s : ℕ} → Usable sheet n k s → {m : ℕ} {g w : List ℕ} → Generated sheet n m g w
-    → encodeMask m (generatorOf sheet) (maskOf messageWeight k message) ≡ encodedWord sheet message
-unfolding encodedWord
-encoded-is {sheet} message {n} {k} u t =
-    ap₂ (λ (x y : ℕ). encodeMask x (generatorOf sheet) (maskOf messageWeight y message))
-    (t .degree-is ∙ ap (λ (x : ℕ). x - dimensionOf sheet) (u .n-is)) (u .k-is)
+module _ {n k s m : ℕ} {reps message g w w₁ : List ℕ} (u : Usable n k s reps) (b : Building n m reps g w) (c : Encoded n k m message g w w₁) where
+  pub encoded-holds : Holds (encodeMask m (generator n reps) (maskOf messageWeight k message)) w₁
+  encoded-holds = c .holds (b .holds) (degree-one (u .coded) b) (b .clear)
 
-pub encoded-bytes : {sheet message out : List ℕ} {n k s m : ℕ} {g w w₁ : List ℕ} → Usable sheet n k s → Generated sheet n m g w
-    → Encoded n k m message g w w₁ → Packed wordWeight w₁ out → length out ≡ bytesFor n → ((i : ℕ) → getD out i 0 < 256)
-    → out ≡ bytesOf wordWeight n (encodedWord sheet message)
-encoded-bytes {sheet} {message} {out} {n} u t c p long bytes =
-    packed-is word-weights n p (c .holds (t .holds) (degree-one u t) (t .clear)) long bytes
-    ∙ ap (bytesOf wordWeight n) (encoded-is message u t)
-
-pub encoded-holds : {sheet message : List ℕ} {n k s m : ℕ} {g w w₁ : List ℕ} → Usable sheet n k s → Generated sheet n m g w
-    → Encoded n k m message g w w₁ → Holds (encodeMask m (generatorOf sheet) (maskOf messageWeight k message)) w₁
-encoded-holds u t c = c .holds (t .holds) (degree-one u t) (t .clear)
+  pub encoded-bytes : {out : List ℕ} → Packed wordWeight w₁ out → length out ≡ bytesFor n → ((i : ℕ) → getD out i 0 < 256)
+      → CodewordWritten n k reps message out
+  encoded-bytes p long bytes = record {
+    is = packed-is word-weights n p encoded-holds long bytes
+        ∙ ap (λ (x : ℕ). bytesOf wordWeight n (encodeMask x (generator n reps) (maskOf messageWeight k message))) (checks-is (u .coded) b);
+  }
 
 -- ---- reading out
 pub message-read : {m k : ℕ} {word w w₁ out : List ℕ} → Spread wordWeight m 0 k word w w₁ → Packed messageWeight w₁ out → Holds 0 w
@@ -178,13 +127,14 @@ unit m = record { at = go }
         getD-set-other (replicate (suc m) 0) 0 (suc i) 1 0 (λ e. omega arith) ∙ zeros (suc m) .at (suc i) ∙ coefficient-zero (suc i)
         ∙ sym (coefficient-s i 1 ∙ coefficient-zero i)
 
-pub fresh : {n : ℕ} → n ≤ 127 → Fresh n (set (replicate 144 0) 0 1) (replicate 16 0) (replicate 144 0)
-fresh h = record {
-  one = unit 143;
-  zero = zeros 144;
-  g-long = omega (arith, h);
-  p-long = omega arith;
-  w-long = omega (arith, h);
+pub fresh : (a b c : ℕ) {n : ℕ} → n ≤ a → 12 < b → n + 14 ≤ c
+    → Fresh n (set (replicate (suc a) 0) 0 1) (replicate b 0) (replicate c 0)
+fresh a b c {n} h k l = record {
+  one = unit a;
+  zero = zeros c;
+  g-long = subst (λ (x : ℕ). n < x) (sym (length-set (replicate (suc a) 0) 0 1 ∙ length-replicate {A = ℕ} (suc a) 0)) (omega arith);
+  p-long = subst (λ (x : ℕ). 12 < x) (sym (length-replicate {A = ℕ} b 0)) k;
+  w-long = subst (λ (x : ℕ). n + 14 ≤ x) (sym (length-replicate {A = ℕ} c 0)) l;
 }
 
 -- ---- bytes

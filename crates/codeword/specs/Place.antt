@@ -4,12 +4,14 @@
 --   Spread weight from at count bytes w w′      w′ is w with the places of the bytes from `from` on, `count` of them, from `at` on
 --   Binary w               each entry is 0 or 1
 --   Packed weight w out    each place of the bytes is the entry of w
+--   placesOf word          all places of a word's bytes, spare ones too
 use mathlib.Core.Path.{_≡_}
 use mathlib.Core.Logic.{_≢_}
-use mathlib.Core.List.{List}
+use mathlib.Core.List.{List, map}
 use Prim.Native.Nat.{ℕ, _+_, _*_, _/_, _≤_, _<_}
 use lib.ListN.{length, getD}
-use Rattle.document.specs.Layout.{place}
+use Rattle.field.specs.Search.{upTo}
+use Rattle.document.specs.Layout.{wordWeight, place}
 
 pub record Put (weight : ℕ → ℕ) (i bit : ℕ) (old new : List ℕ) : Type 0 where
   pub long : length new ≡ length old
@@ -27,3 +29,6 @@ pub record Binary (w : List ℕ) : Type 0 where
 
 pub record Packed (weight : ℕ → ℕ) (w out : List ℕ) : Type 0 where
   pub at : (i : ℕ) → i < length out * 8 → place weight out i ≡ getD w i 0
+
+unfoldable pub placesOf : List ℕ → List ℕ
+placesOf word = map (place wordWeight word) (upTo (length word * 8))

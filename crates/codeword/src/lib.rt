@@ -6,7 +6,7 @@ pub mod layout;
 // places between bytes and slices of 0 and 1
 pub mod spread;
 
-// the sheet's generator, and the test for a codeword
+// the test for a codeword
 pub mod test;
 
 // codewords and messages written into bytes

@@ -2,14 +2,12 @@
 ghost use mathlib.Core.Path.{_≡_};
 ghost use Prim.Native.Nat.{_+_, _<_, _≤_};
 ghost use lib.ListN.{length};
-ghost use Rattle.document.specs.Layout.{wordWeight, bytesFor, bytesOf};
-ghost use Rattle.document.specs.Entry.{encodedWord};
-ghost use Rattle.codeword.specs.Codewords.{Usable, Fresh, Encodable, Encoded, Readable, MessageRead};
+ghost use Rattle.document.specs.Layout.{bytesFor};
+ghost use Rattle.codeword.specs.Codewords.{Usable, Fresh, CodewordWritten, Encodable, Encoded, Readable, MessageRead};
 use crate::spread::pack_message;
 use crate::spread::pack_word;
 use crate::spread::spread_message;
 use crate::spread::spread_word;
-use crate::test::sheet_generator;
 use binary::bits::divide;
 
 // The codeword's places, in place of 0: the message goes in twice, as division leaves the remainder alone.
@@ -24,7 +22,7 @@ fn codeword_places(message: &[u8], n: usize, k: usize, generator: &[u8], m: usiz
 
 // The codeword of a message without spare bits, both buffers of the right length.
 pub fn write_codeword(
-    sheet: &[u8],
+    representatives: &[u16],
     n: usize,
     k: usize,
     s: usize,
@@ -34,10 +32,10 @@ pub fn write_codeword(
     factor: &mut [u16],
     bits: &mut [u8],
 )
-    requires { ⌜ Usable (now sheet) n k s × Encodable n k (now message) (now out) × Fresh n (now generator) (now factor) (now bits) ⌝ }
-    ensures { λ _. ⌜ now (out .exit) ≡ bytesOf wordWeight n (encodedWord (now (sheet .entry)) (now (message .entry))) ⌝ }
+    requires { ⌜ Usable n k s (now representatives) × Encodable n k (now message) (now out) × Fresh n (now generator) (now factor) (now bits) ⌝ }
+    ensures { λ _. ⌜ CodewordWritten n k (now (representatives .entry)) (now (message .entry)) (now (out .exit)) ⌝ }
 {
-    let m = sheet_generator(sheet, n, k, s, generator, factor, bits);
+    let m = generator::generator::generator(representatives, n, s, generator, factor, bits);
     codeword_places(message, n, k, generator, m, bits);
     pack_word(bits, out);
 }

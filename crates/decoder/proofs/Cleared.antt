@@ -1,16 +1,16 @@
 -- The arrays as they are made.
 --
 --   cleared      an array of 0 has no coefficients
---   lodged       a word of a code of fewer than k terms, in arrays of k
---   degree-of, terms-few       s is a degree of the table, and L below 1,024
+--   lodged       a word of a code of n places and fewer than k terms, in arrays of a columns, m values and k coefficients
+--   degree-of    s is a degree of the table
 --   small-tables, large-tables      arrays for the tables of a degree up to 8, and up to 12
---   any-terms    where the long arrays are chosen, nothing is asked of L
+--   any-terms    where the long arrays are chosen, no more is asked of L
 --   again        an answer made anew says what it said
 use mathlib.Core.Path.{_≡_, refl, sym, subst}
 use mathlib.Core.Logic.{_⊎_, inl, inr}
 use mathlib.Core.Bool.{true, false}
 use mathlib.Core.List.{List}
-use Prim.Native.Nat.{ℕ, _-_, _^_, _≤_, _<_}
+use Prim.Native.Nat.{ℕ, _+_, _-_, _*_, _/_, _^_, _≤_, _<_}
 use native.Mathlib.Omega.{arith}
 use lib.ListN.{length, getD, replicate, length-replicate, getD-replicate, List·getD-eq-default}
 use lib.Pow.{pow-mono}
@@ -19,9 +19,7 @@ use Rattle.field.specs.Field.{Degree}
 use Rattle.field.proofs.Search.{true-ne-false}
 use Rattle.field.specs.Tables as Tables
 use Rattle.document.proofs.Theory.{degree}
-use Rattle.certificate.specs.declared.types.Certificate.{Certificate as CodeCertificate}
-use Rattle.certificate.specs.Rules.{certificateAs}
-use Rattle.certificate.proofs.RulesHeld.{in-range}
+use Rattle.sheet.specs.declared.types.Certificate.{Certificate as CodeCertificate}
 use Rattle.poly.specs.Slice.{Short}
 use Rattle.decoder.specs.declared.types.Correction.{Correction}
 use Rattle.decoder.specs.Correct.{Given, Workspace, Held, Correctable, correctedAs, Corrected}
@@ -36,16 +34,16 @@ cleared m = record { at = λ i h. go i (le-or-lt m i) }
     go i (inl h) = List·getD-eq-default (zeros m) 0 (omega (arith, length-replicate {A = ℕ} m 0))
     go i (inr h) = getD-replicate {A = ℕ} m i 0 0 h
 
-space : {n L k : ℕ} {list : List ℕ} → n ≤ 127 → n ≤ length list → L < k
-    → Workspace n L (zeros 32) (zeros 128) (zeros k) (zeros k) (zeros k) (zeros k) (zeros k) (zeros k) (zeros k) (zeros k) list
-space {L = L} {k} h l m =
+space : {n L a m k : ℕ} {list : List ℕ} → n ≤ length list → L < k → (n + 7) / 8 * 2 ≤ a → n ≤ m
+    → Workspace n L (zeros a) (zeros m) (zeros k) (zeros k) (zeros k) (zeros k) (zeros k) (zeros k) (zeros k) (zeros k) list
+space {n} {L} {a} {m} {k} l h ha hm =
     let z : length (zeros k) ≡ k = length-replicate {A = ℕ} k 0 in
     let y : L < length (zeros k) = omega (arith, z) in
     let x : length (zeros k) ≤ length (zeros k) = omega arith in
     record {
-      columns-long = omega arith;
+      columns-long = omega (arith, length-replicate {A = ℕ} a 0);
       places-long = l;
-      values-long = omega arith;
+      values-long = omega (arith, length-replicate {A = ℕ} m 0);
       upper-long = y;
       lower-long = y;
       lower-cofactor-long = y;
@@ -60,16 +58,13 @@ space {L = L} {k} h l m =
       upper-cofactor-zero = cleared k;
     }
 
-pub lodged : {n s t : ℕ} {c : CodeCertificate} {reps e g list w : List ℕ} (k : ℕ) → Given n s t c reps → Held n w → n ≤ length list
-    → Tables.Tables s e g → c .terms < k
-    → Correctable n s t c reps e g (zeros 32) (zeros 128) (zeros k) (zeros k) (zeros k) (zeros k) (zeros k) (zeros k) (zeros k) (zeros k) list w
-lodged k p h l y m = record { given = p; tables = y; space = space (p .most) l m; held = h }
+pub lodged : {n s t : ℕ} {c : CodeCertificate} {reps e g list w : List ℕ} (a m k : ℕ) → Given n s t c reps → Held n w → n ≤ length list
+    → Tables.Tables s e g → c .terms < k → (n + 7) / 8 * 2 ≤ a → n ≤ m
+    → Correctable n s t c reps e g (zeros a) (zeros m) (zeros k) (zeros k) (zeros k) (zeros k) (zeros k) (zeros k) (zeros k) (zeros k) list w
+lodged a m k p h l y few ha hm = record { given = p; tables = y; space = space l few ha hm; held = h }
 
 pub degree-of : {n s t : ℕ} {c : CodeCertificate} {reps : List ℕ} → Given n s t c reps → Degree s
 degree-of p = subst Degree (sym (p .s-is)) (degree (p .length-of))
-
-pub terms-few : {n s t : ℕ} {c : CodeCertificate} {reps : List ℕ} → Given n s t c reps → c .terms < 1024
-terms-few {c = c} {reps} p = omega (arith, in-range (p .length-of) reps (certificateAs c) (p .sound) .L-high)
 
 pub small-tables : {s : ℕ} → Degree s → s ≤ 8 → Tables.Fillable s (replicate 1280 0) (replicate 256 0)
 small-tables {s} d h = let b : 2 ^ s ≤ 2 ^ 8 = pow-mono h in record { degree = d; e-long = omega arith; g-long = omega arith }

@@ -39,10 +39,11 @@ use Rattle.document.specs.Answer.{Answer, returned, refused}
 use Rattle.document.specs.Generator.{generator, isCodeword, Codeword, differences}
 use Rattle.document.specs.Certificate.{radius, distance}
 use Rattle.document.proofs.Theory.{Length, degree, codeOf}
-use Rattle.certificate.specs.declared.types.Certificate.{Certificate as CodeCertificate}
-use Rattle.certificate.specs.Rules.{Walkable, certificateAs}
+use Rattle.sheet.specs.declared.types.Certificate.{Certificate as CodeCertificate}
+use Rattle.sheet.specs.Stage.{certificateAs}
+use Rattle.certificate.specs.Rules.{Walkable}
 use Rattle.certificate.proofs.Ranges.{Ranged}
-use Rattle.certificate.proofs.Checks.{modulus-of, walkable-ranged}
+use Rattle.certificate.proofs.Checks.{modulus-of, walkable-of}
 use Rattle.certificate.proofs.Terms.{f-fits}
 use Rattle.certificate.proofs.RulesHeld.{in-range, theory}
 use Rattle.certificate.proofs.Distance.{differences-self}
@@ -76,7 +77,7 @@ module _ {n s t : ℕ} {c : CodeCertificate} {reps : List ℕ} (p : Given n s t 
       (stop-fits₀ (c .terms) (degreeOf (c .f)) (degreeOf (c .h)) (range .v))
 
   pub stop-word : {u : ℕ} → u ≡ degreeOf (c .f) → Fits w64 (t * u)
-  stop-word e = omega (arith, stop-fits e, range .L-high)
+  stop-word e = omega (arith, stop-fits e, p .few)
 
 -- ---- the slice that holds the locator
 differ : true ≡ false → ⊥
@@ -135,7 +136,7 @@ module _ {n s t : ℕ} {c : CodeCertificate} {reps e g col val a b v x lg st lo 
   }
 
   pub walkable : {val′ : List ℕ} → length val′ ≡ length val → Walkable n c val′
-  walkable e = walkable-ranged (range (p .given)) (p .given .most) (omega (arith, e, p .space .values-long))
+  walkable e = walkable-of (range (p .given)) (p .given .length-of .odd .most) (p .given .few) (omega (arith, e, p .space .values-long))
 
   pub f-small : c .f < 65536
   f-small = omega (arith, f-fits (walkable {val′ = val} refl))
@@ -198,7 +199,6 @@ module _ {n s t : ℕ} {c : CodeCertificate} {reps e g col val a b v x lg st lo 
           hi-long = long (p .space .high-long);
         };
         list-long = p .space .places-long;
-        few = omega (arith, p .given .most);
       }
     where
       long : {k : ℕ} → (length v ≤ k) × (length x ≤ k) → len ≤ k

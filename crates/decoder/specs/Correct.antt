@@ -17,8 +17,8 @@ use Rattle.document.specs.Answer.{Answer, returned, refused}
 use Rattle.document.specs.Generator.{Codeword, differences}
 use Rattle.document.specs.Certificate.{radius}
 use Rattle.document.proofs.Theory.{Length}
-use Rattle.certificate.specs.declared.types.Certificate.{Certificate as CodeCertificate}
-use Rattle.certificate.specs.Rules.{certificateAs}
+use Rattle.sheet.specs.declared.types.Certificate.{Certificate as CodeCertificate}
+use Rattle.sheet.specs.Stage.{certificateAs}
 use Rattle.certificate.proofs.RulesHeld.{Sound}
 use Rattle.binary.specs.Bits.{Holds}
 use Rattle.syndrome.specs.Sums.{Listed}
@@ -29,8 +29,8 @@ use Rattle.decoder.specs.declared.types.Correction.the-variants.{Places,
 
 pub record Given (n s t : ℕ) (c : CodeCertificate) (reps : List ℕ) : Type 0 where
   pub length-of : Length n
-  pub most : n ≤ 127
   pub s-is : s ≡ orderOfTwo n
+  pub few : c .terms ≤ 65535
   pub below : (k : ℕ) → k < length reps → getD reps k 0 < n
   pub sound : Sound n reps (certificateAs c)
   pub t-is : t ≡ radius (certificateAs c)

@@ -1,2 +1,3 @@
 pub mod Correct
 pub mod Repair
+pub mod Decode

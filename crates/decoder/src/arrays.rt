@@ -9,11 +9,12 @@ ghost use mathlib.Core.Bool.{false};
 ghost use Prim.Native.Nat.{_<_, _≤_};
 ghost use lib.ListN.{length};
 ghost use Rattle.field.specs.Tables.{Tables};
+ghost use Rattle.codeword.specs.Place.{placesOf};
 ghost use Rattle.decoder.specs.Correct.{Given, Held, correctedAs, Corrected};
 use crate::correct::correct;
 use crate::types::Correction;
-use certificate::types::Certificate;
 use field::tables::fill;
+use sheet::types::Certificate;
 
 // Up to 63 terms.
 fn with_short_arrays(
@@ -21,14 +22,14 @@ fn with_short_arrays(
     s: usize,
     t: usize,
     c: Certificate,
-    representatives: &[u8],
+    representatives: &[u16],
     powers: &[u16],
     logs: &[u16],
-    places: &mut [u8],
-    bits: &[u8],
+    places: &mut [u16],
+    word: &[u8],
 ) -> Correction
-    requires { ⌜ Given n s t c (now representatives) × Held n (now bits) × (n ≤ length (now places)) × Tables s (now powers) (now logs) × (c .terms < 64) ⌝ }
-    ensures { λ r. ⌜ Corrected n t (now (representatives .entry)) (now (bits .entry)) (now (places .exit)) (correctedAs r) ⌝ }
+    requires { ⌜ Given n s t c (now representatives) × Held n (placesOf (now word)) × (n ≤ length (now places)) × Tables s (now powers) (now logs) × (c .terms < 64) × (n ≤ 127) ⌝ }
+    ensures { λ r. ⌜ Corrected n t (now (representatives .entry)) (placesOf (now (word .entry))) (now (places .exit)) (correctedAs r) ⌝ }
 {
     let mut columns = [0u64; 32];
     let mut values = [0u16; 128];
@@ -59,7 +60,7 @@ fn with_short_arrays(
         &mut low,
         &mut high,
         places,
-        bits,
+        word,
     ) else {
         return Correction::None;
     };
@@ -72,14 +73,14 @@ fn with_long_arrays(
     s: usize,
     t: usize,
     c: Certificate,
-    representatives: &[u8],
+    representatives: &[u16],
     powers: &[u16],
     logs: &[u16],
-    places: &mut [u8],
-    bits: &[u8],
+    places: &mut [u16],
+    word: &[u8],
 ) -> Correction
-    requires { ⌜ Given n s t c (now representatives) × Held n (now bits) × (n ≤ length (now places)) × Tables s (now powers) (now logs) ⌝ }
-    ensures { λ r. ⌜ Corrected n t (now (representatives .entry)) (now (bits .entry)) (now (places .exit)) (correctedAs r) ⌝ }
+    requires { ⌜ Given n s t c (now representatives) × Held n (placesOf (now word)) × (n ≤ length (now places)) × Tables s (now powers) (now logs) × (c .terms < 1024) × (n ≤ 127) ⌝ }
+    ensures { λ r. ⌜ Corrected n t (now (representatives .entry)) (placesOf (now (word .entry))) (now (places .exit)) (correctedAs r) ⌝ }
 {
     let mut columns = [0u64; 32];
     let mut values = [0u16; 128];
@@ -110,7 +111,7 @@ fn with_long_arrays(
         &mut low,
         &mut high,
         places,
-        bits,
+        word,
     ) else {
         return Correction::None;
     };
@@ -123,21 +124,21 @@ fn with_small_tables(
     s: usize,
     t: usize,
     c: Certificate,
-    representatives: &[u8],
-    places: &mut [u8],
-    bits: &[u8],
+    representatives: &[u16],
+    places: &mut [u16],
+    word: &[u8],
     long: bool,
 ) -> Correction
-    requires { ⌜ Given n s t c (now representatives) × Held n (now bits) × (n ≤ length (now places)) × (long ≡ false → c .terms < 64) × (s ≤ 8) ⌝ }
-    ensures { λ r. ⌜ Corrected n t (now (representatives .entry)) (now (bits .entry)) (now (places .exit)) (correctedAs r) ⌝ }
+    requires { ⌜ Given n s t c (now representatives) × Held n (placesOf (now word)) × (n ≤ length (now places)) × (long ≡ false → c .terms < 64) × (s ≤ 8) × (c .terms < 1024) × (n ≤ 127) ⌝ }
+    ensures { λ r. ⌜ Corrected n t (now (representatives .entry)) (placesOf (now (word .entry))) (now (places .exit)) (correctedAs r) ⌝ }
 {
     let mut powers = [0u16; 1280];
     let mut logs = [0u16; 256];
     fill(s, &mut powers, &mut logs);
     if long {
-        return with_long_arrays(n, s, t, c, representatives, &powers, &logs, places, bits);
+        return with_long_arrays(n, s, t, c, representatives, &powers, &logs, places, word);
     }
-    with_short_arrays(n, s, t, c, representatives, &powers, &logs, places, bits)
+    with_short_arrays(n, s, t, c, representatives, &powers, &logs, places, word)
 }
 
 // s up to 12.
@@ -146,21 +147,21 @@ fn with_large_tables(
     s: usize,
     t: usize,
     c: Certificate,
-    representatives: &[u8],
-    places: &mut [u8],
-    bits: &[u8],
+    representatives: &[u16],
+    places: &mut [u16],
+    word: &[u8],
     long: bool,
 ) -> Correction
-    requires { ⌜ Given n s t c (now representatives) × Held n (now bits) × (n ≤ length (now places)) × (long ≡ false → c .terms < 64) ⌝ }
-    ensures { λ r. ⌜ Corrected n t (now (representatives .entry)) (now (bits .entry)) (now (places .exit)) (correctedAs r) ⌝ }
+    requires { ⌜ Given n s t c (now representatives) × Held n (placesOf (now word)) × (n ≤ length (now places)) × (long ≡ false → c .terms < 64) × (c .terms < 1024) × (n ≤ 127) ⌝ }
+    ensures { λ r. ⌜ Corrected n t (now (representatives .entry)) (placesOf (now (word .entry))) (now (places .exit)) (correctedAs r) ⌝ }
 {
     let mut powers = [0u16; 20480];
     let mut logs = [0u16; 4096];
     fill(s, &mut powers, &mut logs);
     if long {
-        return with_long_arrays(n, s, t, c, representatives, &powers, &logs, places, bits);
+        return with_long_arrays(n, s, t, c, representatives, &powers, &logs, places, word);
     }
-    with_short_arrays(n, s, t, c, representatives, &powers, &logs, places, bits)
+    with_short_arrays(n, s, t, c, representatives, &powers, &logs, places, word)
 }
 
 // The places that turn a word into the codeword within t places of it, if there is one.
@@ -169,21 +170,21 @@ pub fn correct_word(
     s: usize,
     t: usize,
     c: Certificate,
-    representatives: &[u8],
-    places: &mut [u8],
-    bits: &[u8],
+    representatives: &[u16],
+    places: &mut [u16],
+    word: &[u8],
 ) -> Correction
-    requires { ⌜ Given n s t c (now representatives) × Held n (now bits) × (n ≤ length (now places)) ⌝ }
-    ensures { λ r. ⌜ Corrected n t (now (representatives .entry)) (now (bits .entry)) (now (places .exit)) (correctedAs r) ⌝ }
+    requires { ⌜ Given n s t c (now representatives) × Held n (placesOf (now word)) × (n ≤ length (now places)) × (c .terms < 1024) × (n ≤ 127) ⌝ }
+    ensures { λ r. ⌜ Corrected n t (now (representatives .entry)) (placesOf (now (word .entry))) (now (places .exit)) (correctedAs r) ⌝ }
 {
     if c.terms < 64 {
         if s <= 8 {
-            return with_small_tables(n, s, t, c, representatives, places, bits, false);
+            return with_small_tables(n, s, t, c, representatives, places, word, false);
         }
-        return with_large_tables(n, s, t, c, representatives, places, bits, false);
+        return with_large_tables(n, s, t, c, representatives, places, word, false);
     }
     if s <= 8 {
-        return with_small_tables(n, s, t, c, representatives, places, bits, true);
+        return with_small_tables(n, s, t, c, representatives, places, word, true);
     }
-    with_large_tables(n, s, t, c, representatives, places, bits, true)
+    with_large_tables(n, s, t, c, representatives, places, word, true)
 }

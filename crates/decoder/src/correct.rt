@@ -2,12 +2,13 @@
 // whatever places came out. arrays.rt has the slices.
 ghost use Prim.Native.Nat.{_≤_};
 ghost use Rattle.syndrome.specs.Value.{Comparable};
+ghost use Rattle.codeword.specs.Place.{placesOf};
 ghost use Rattle.decoder.specs.Correct.{correctedAs, Verified, Chosen, Correctable, Corrected};
 use crate::types::Correction;
 use binary::factor::degree;
-use certificate::types::Certificate;
 use locator::locate::locate;
 use poly::euclid::euclid;
+use sheet::types::Certificate;
 use syndrome::agreement::agrees;
 use syndrome::syndromes::syndromes;
 use syndrome::values::evaluate;
@@ -19,8 +20,8 @@ pub fn verdict(
     s: usize,
     t: usize,
     m: usize,
-    places: &[u8],
-    representatives: &[u8],
+    places: &[u16],
+    representatives: &[u16],
     values: &[u16],
     powers: &[u16],
 ) -> Correction
@@ -47,13 +48,13 @@ fn holder<'a>(upper: bool, lower_cofactor: &'a [u16], upper_cofactor: &'a [u16])
     }
 }
 
-// The places that turn a word, a byte for each place, into the codeword within t places of it, if there is one.
+// The places that turn a word into the codeword within t places of it, if there is one.
 pub fn correct(
     n: usize,
     s: usize,
     t: usize,
     c: Certificate,
-    representatives: &[u8],
+    representatives: &[u16],
     powers: &[u16],
     logs: &[u16],
     columns: &mut [u64],
@@ -66,26 +67,28 @@ pub fn correct(
     steps: &mut [u16],
     low: &mut [u64],
     high: &mut [u64],
-    places: &mut [u8],
-    bits: &[u8],
+    places: &mut [u16],
+    word: &[u8],
 ) -> Correction
-    requires { ⌜ Correctable n s t c (now representatives) (now powers) (now logs) (now columns) (now values) (now upper) (now lower) (now «lower_cofactor») (now «upper_cofactor») (now exponents) (now steps) (now low) (now high) (now places) (now bits) ⌝ }
-    ensures { λ r. ⌜ Corrected n t (now (representatives .entry)) (now (bits .entry)) (now (places .exit)) (correctedAs r) ⌝ }
+    requires { ⌜ Correctable n s t c (now representatives) (now powers) (now logs) (now columns) (now values) (now upper) (now lower) (now «lower_cofactor») (now «upper_cofactor») (now exponents) (now steps) (now low) (now high) (now places) (placesOf (now word)) ⌝ }
+    ensures { λ r. ⌜ Corrected n t (now (representatives .entry)) (placesOf (now (word .entry))) (now (places .exit)) (correctedAs r) ⌝ }
 {
-    if evaluate(bits, n, s, representatives, powers, logs, columns, values) {
+    if evaluate(word, n, s, representatives, powers, logs, columns, values) {
         return Correction::Places(0);
     }
     extend(n, s, representatives, powers, logs, values);
     syndromes(n, c, values, lower);
-    let u = degree(c.f);
+    let f = c.f as usize;
+    let terms = c.terms as usize;
+    let u = degree(f);
     let found = euclid(
         s,
         upper,
         lower,
         lower_cofactor,
         upper_cofactor,
-        c.terms,
-        c.terms - t * u,
+        terms,
+        terms - t * u,
         powers,
         logs,
     );
@@ -94,8 +97,8 @@ pub fn correct(
     let m = locate(
         n,
         s,
-        c.z,
-        c.f,
+        c.z as usize,
+        f,
         u,
         t,
         locator,

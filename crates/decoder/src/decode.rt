@@ -1,4 +1,4 @@
-// Decoding an accepted sheet's word: the page that says how it goes.
+// Decoding a word of the code that an accepted sheet states: the page that says how it goes.
 //
 // A received word r is a codeword c with places changed. c is 0 at α^i for every i of D, so r has there the value of the changes.
 // 1. Values (syndrome): r at α to each representative. All 0: r is a codeword, and the answer. Else the other values of D follow by
@@ -12,34 +12,31 @@
 //    places, and the bytes are written (repair.rt); and if a codeword is within t places, these are the places in which it differs.
 //    Else the answer is 13.
 // Cost: some R·n/4 + L·t·u + n·t·u table reads for n places, R representatives and f of degree u. No pattern of errors is tried.
-ghost use mathlib.Core.Path.{_≡_};
+ghost use Prim.Native.Nat.{_<_, _≤_};
 ghost use Rattle.document.specs.Answer.{repliedAs};
-ghost use Rattle.document.specs.Entry.{decodeOf};
-ghost use Rattle.codeword.specs.Codewords.{Usable, Recorded};
+ghost use Rattle.decoder.specs.Correct.{Given};
+ghost use Rattle.decoder.specs.Decode.{Decoded};
 use crate::arrays::correct_word;
 use crate::repair::repair;
 use crate::types::Correction;
-use certificate::range::read;
 use codeword::layout::bytes_for;
 use codeword::layout::spare_word;
-use codeword::spread::spread_word;
 use document::types::Refusal;
 use document::types::Reply;
-use sheet::header::byte;
+use sheet::types::Certificate;
 
-// Refusals 11, 12 and 13, and the corrected word where none is drawn.
+// Refusals 11, 12 and 13, and the corrected word where none is drawn. c is the working certificate.
 pub fn decode_accepted(
-    sheet: &[u8],
     n: usize,
-    k: usize,
     s: usize,
-    working: usize,
     t: usize,
+    c: Certificate,
+    representatives: &[u16],
     word: &[u8],
     out: &mut [u8],
 ) -> Reply
-    requires { ⌜ Usable (now sheet) n k s × Recorded (now sheet) working t ⌝ }
-    ensures { λ r. ⌜ (repliedAs r, now (out .exit)) ≡ decodeOf (now (sheet .entry)) (now (word .entry)) (now (out .entry)) ⌝ }
+    requires { ⌜ Given n s t c (now representatives) × (c .terms < 1024) × (n ≤ 127) ⌝ }
+    ensures { λ r. ⌜ Decoded n t (now (representatives .entry)) (now (word .entry)) (now (out .entry)) (now (out .exit)) (repliedAs r) ⌝ }
 {
     if word.len() != bytes_for(n) {
         return Reply::Refused(Refusal::BufferLength);
@@ -50,13 +47,8 @@ pub fn decode_accepted(
     if spare_word(n, word) {
         return Reply::Refused(Refusal::SpareBit);
     }
-    let reps = byte(sheet, 3);
-    let c = read(sheet, reps, working);
-    let mut bits = [0u8; 128];
-    let mut places = [0u8; 128];
-    spread_word(word, 0, n, &mut bits);
-    let end = 10 + reps;
-    let Correction::Places(m) = correct_word(n, s, t, c, &sheet[10..end], &mut places, &bits) else {
+    let mut places = [0u16; 128];
+    let Correction::Places(m) = correct_word(n, s, t, c, representatives, &mut places, word) else {
         return Reply::Refused(Refusal::NoneNear);
     };
     repair(word, &places, m, out);

@@ -18,7 +18,7 @@ pub fn copy(from: &[u8], to: &mut [u8])
 }
 
 // The first m places of the list, each set to the other value.
-pub fn flip(places: &[u8], m: usize, out: &mut [u8])
+pub fn flip(places: &[u16], m: usize, out: &mut [u8])
     requires { ⌜ Repairable (now out) (now places) m (now out) ⌝ }
     ensures { λ _. ⌜ Repaired (now (out .entry)) (now (places .entry)) m (now (out .exit)) ⌝ }
 {
@@ -32,7 +32,7 @@ pub fn flip(places: &[u8], m: usize, out: &mut [u8])
 }
 
 // The bytes of a word with the first m places of a list changed.
-pub fn repair(word: &[u8], places: &[u8], m: usize, out: &mut [u8])
+pub fn repair(word: &[u8], places: &[u16], m: usize, out: &mut [u8])
     requires { ⌜ Repairable (now word) (now places) m (now out) ⌝ }
     ensures { λ _. ⌜ Repaired (now (word .entry)) (now (places .entry)) m (now (out .exit)) ⌝ }
 {

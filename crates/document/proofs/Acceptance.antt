@@ -1,5 +1,7 @@
 -- What is accepted, and what a refusal says of the conditions.
 --
+-- For any kind of sheet.
+--
 --   judge-number, judge-le      the number of a sheet's answer is that of its first condition, at most 10
 --   quiet-first, quiet-of      no condition of a quiet list holds, and back
 --   accepted-iff         a sheet is accepted exactly when no condition 1 to 10 holds
@@ -14,12 +16,14 @@ use mathlib.Core.List.{List, [], _∷_, _++_, flatMap}
 use Prim.Native.Nat.{ℕ, zero, suc, _+_, _≤_, _<_}
 use native.Mathlib.Decide.{ℕ-discrete}
 use native.Mathlib.Omega.{arith}
+use lib.ListN.{length}
 use Rattle.field.specs.Search.{upTo}
-use Rattle.document.specs.Answer.{returned, Conditions, firstOf, settle}
-use Rattle.document.specs.Sheet.{codeLength, representatives, certificateCount, certificate}
+use Rattle.document.specs.Answer.{Answer, returned, Conditions, firstOf, settle}
+use Rattle.document.specs.Sheet.{Certificate, Stated, certificateAt, Kind, statedBy}
 use Rattle.document.specs.Certificate.{rule1, rule2, rule3, rule4}
-use Rattle.document.specs.Judge.{sheetConditions, certificateConditions, judgeConditions, recordOf, judgeOf}
-use Rattle.document.proofs.Chain.{Quiet, silent, passing, quiet-append, flat, flat-suc, four-quiet}
+use Rattle.document.specs.Judge.{sheetConditions, certificateConditions, judgeConditions, recordOf, judgeEntry}
+use Rattle.document.proofs.Stated.{not-false}
+use Rattle.document.proofs.Chain.{Quiet, silent, passing, quiet-append, each, flat, flat-all, flat-suc, four-quiet}
 use Rattle.document.proofs.Sane.{settle-number, passed}
 
 -- every condition has a number from 1 to 10
@@ -34,28 +38,30 @@ numbered-append : {a b : Conditions} → Numbered a → Numbered b → Numbered 
 numbered-append none q = q
 numbered-append (more h k p) q = more h k (numbered-append p q)
 
-six : (sheet : List ℕ) → Numbered (sheetConditions sheet)
+six : (kind : Kind) (sheet : List ℕ) → Numbered (sheetConditions kind sheet)
 unfolding sheetConditions
-six sheet =
+six kind sheet =
     number 1 _ (omega arith) (omega arith)
     (number 2 _ (omega arith) (omega arith)
     (number 3 _ (omega arith) (omega arith)
     (number 4 _ (omega arith) (omega arith) (number 5 _ (omega arith) (omega arith) (number 6 _ (omega arith) (omega arith) none)))))
 
-four : (sheet : List ℕ) (i : ℕ) → Numbered (certificateConditions sheet i)
+four : (most n : ℕ) (reps : List ℕ) (c : Certificate) → Numbered (certificateConditions most n reps c)
 unfolding certificateConditions
-four sheet i =
+four most n reps c =
     number 7 _ (omega arith) (omega arith)
     (number 8 _ (omega arith) (omega arith) (number 9 _ (omega arith) (omega arith) (number 10 _ (omega arith) (omega arith) none)))
 
-fours : (sheet : List ℕ) (l : List ℕ) → Numbered (flatMap (certificateConditions sheet) l)
+fours : (most n : ℕ) (reps : List ℕ) (l : List Certificate) → Numbered (flatMap (certificateConditions most n reps) l)
 unfolding flatMap
-fours sheet [] = none
-fours sheet (i ∷ l) = numbered-append (four sheet i) (fours sheet l)
+fours most n reps [] = none
+fours most n reps (c ∷ l) = numbered-append (four most n reps c) (fours most n reps l)
 
-all-numbered : (sheet : List ℕ) → Numbered (judgeConditions sheet)
+all-numbered : (kind : Kind) (sheet : List ℕ) → Numbered (judgeConditions kind sheet)
 unfolding judgeConditions
-all-numbered sheet = numbered-append (six sheet) (fours sheet (upTo (certificateCount sheet)))
+all-numbered kind sheet =
+    let x : Stated = statedBy kind sheet in
+    numbered-append (six kind sheet) (fours (kind .mostTerms) (x .n) (x .representatives) (x .certificates))
 
 -- a list of conditions taken apart at the first that holds
 pub record Drawn (l : Conditions) (r : ℕ) : Type 0 where
@@ -88,51 +94,53 @@ first-le [] none = omega arith
 first-le ((r, true) ∷ l) (more h k p) = k
 first-le ((r, false) ∷ l) (more h k p) = first-le l p
 
-pub judge-le : (sheet : List ℕ) → firstOf (judgeConditions sheet) ≤ 10
-judge-le sheet = first-le (judgeConditions sheet) (all-numbered sheet)
+pub judge-le : (kind : Kind) (sheet : List ℕ) → firstOf (judgeConditions kind sheet) ≤ 10
+judge-le kind sheet = first-le (judgeConditions kind sheet) (all-numbered kind sheet)
 
-pub judge-number : (sheet : List ℕ) → judgeOf sheet .number ≡ firstOf (judgeConditions sheet)
-unfolding judgeOf
-judge-number sheet = settle-number (firstOf (judgeConditions sheet)) (recordOf sheet) [] []
+-- what judging answers
+abbrev pub judgeBy : Kind → List ℕ → Answer
+judgeBy kind sheet = judgeEntry (judgeConditions kind sheet) (statedBy kind sheet)
+
+pub judge-number : (kind : Kind) (sheet : List ℕ) → judgeBy kind sheet .number ≡ firstOf (judgeConditions kind sheet)
+unfolding judgeEntry
+judge-number kind sheet = settle-number (firstOf (judgeConditions kind sheet)) (recordOf (statedBy kind sheet)) [] []
 
 pub quiet-first : {l : Conditions} → Quiet l → firstOf l ≡ 0
 unfolding firstOf
 quiet-first silent = refl
 quiet-first (passing {c = c} {l = l} e q) = rw (firstOf, e, quiet-first q)
 
-pub accepted-iff : (sheet : List ℕ) → (judgeOf sheet .number ≡ 0) ↔ Quiet (judgeConditions sheet)
-accepted-iff sheet = (
-  λ e. elim (first-is (judgeConditions sheet) (all-numbered sheet)) [
+pub accepted-iff : (kind : Kind) (sheet : List ℕ) → (judgeBy kind sheet .number ≡ 0) ↔ Quiet (judgeConditions kind sheet)
+accepted-iff kind sheet = (
+  λ e. elim (first-is (judgeConditions kind sheet) (all-numbered kind sheet)) [
     | inl q ↦ q .0
-    | inr q ↦ absurd (omega (arith, q .0, judge-number sheet, e))
+    | inr q ↦ absurd (omega (arith, q .0, judge-number kind sheet, e))
   ],
-  λ q. judge-number sheet ∙ quiet-first q,
+  λ q. judge-number kind sheet ∙ quiet-first q,
 )
 
-pub quiet-of : (sheet : List ℕ) → firstOf (judgeConditions sheet) ≡ 0 → Quiet (judgeConditions sheet)
-quiet-of sheet e = accepted-iff sheet .0 (judge-number sheet ∙ e)
+pub quiet-of : (kind : Kind) (sheet : List ℕ) → firstOf (judgeConditions kind sheet) ≡ 0 → Quiet (judgeConditions kind sheet)
+quiet-of kind sheet e = accepted-iff kind sheet .0 (judge-number kind sheet ∙ e)
 
-pub refused-first : (sheet : List ℕ) → 0 < judgeOf sheet .number → Drawn (judgeConditions sheet) (judgeOf sheet .number)
-refused-first sheet h =
-    elim (first-is (judgeConditions sheet) (all-numbered sheet)) [
-      | inl q ↦ absurd (omega (arith, q .1, judge-number sheet, h))
-      | inr q ↦ subst (Drawn (judgeConditions sheet)) (sym (judge-number sheet)) (q .1)
+pub refused-first : (kind : Kind) (sheet : List ℕ) → 0 < judgeBy kind sheet .number
+    → Drawn (judgeConditions kind sheet) (judgeBy kind sheet .number)
+refused-first kind sheet h =
+    elim (first-is (judgeConditions kind sheet) (all-numbered kind sheet)) [
+      | inl q ↦ absurd (omega (arith, q .1, judge-number kind sheet, h))
+      | inr q ↦ subst (Drawn (judgeConditions kind sheet)) (sym (judge-number kind sheet)) (q .1)
     ]
 
--- ---- one certificate
-not-false : (b : Bool) → not b ≡ false → b ≡ true
-not-false true e = refl
-not-false false e = sym e
+-- ---- one certificate: L is at most `most`
+pub record Rules (most n : ℕ) (reps : List ℕ) (c : Certificate) : Type 0 where
+  pub range : rule1 most n c ≡ true
+  pub factor : rule2 c ≡ true
+  pub period : rule3 n c ≡ true
+  pub terms : rule4 n reps c ≡ true
 
-pub record Rules (sheet : List ℕ) (i : ℕ) : Type 0 where
-  pub range : rule1 (codeLength sheet) (certificate sheet i) ≡ true
-  pub factor : rule2 (certificate sheet i) ≡ true
-  pub period : rule3 (codeLength sheet) (certificate sheet i) ≡ true
-  pub terms : rule4 (codeLength sheet) (representatives sheet) (certificate sheet i) ≡ true
-
-pub certificate-iff : (sheet : List ℕ) (i : ℕ) → (firstOf (certificateConditions sheet i) ≡ 0) ↔ Rules sheet i
+pub certificate-iff : (most n : ℕ) (reps : List ℕ) (c : Certificate)
+    → (firstOf (certificateConditions most n reps c) ≡ 0) ↔ Rules most n reps c
 unfolding certificateConditions
-certificate-iff sheet i = (
+certificate-iff most n reps c = (
   λ e.
       let p₁ = passed 6 _ _ e in
       let p₂ = passed 7 _ _ (p₁ .1) in
@@ -149,47 +157,57 @@ certificate-iff sheet i = (
 )
 
 -- ---- the sheet and its certificates
-quiet-parts : (a : Conditions) {b : Conditions} → Quiet (a ++ b) → Quiet a × Quiet b
+pub quiet-parts : (a : Conditions) {b : Conditions} → Quiet (a ++ b) → Quiet a × Quiet b
 quiet-parts [] q = (silent, q)
 quiet-parts (c ∷ a) (passing e q) = let r = quiet-parts a q in (passing e (r .0), r .1)
 
-flat-at : (sheet : List ℕ) (n : ℕ) → Quiet (flat sheet n) → (i : ℕ) → i < n → Quiet (certificateConditions sheet i)
-flat-at sheet zero q i h = absurd (omega arith)
-flat-at sheet (suc n) q i h =
-    let r = quiet-parts (flat sheet n) (subst Quiet (flat-suc sheet n) q) in
-    elim (ℕ-discrete i n) [
-      | yes e ↦ subst (λ (k : ℕ). Quiet (certificateConditions sheet k)) (sym e) (r .1)
-      | no e ↦ flat-at sheet n (r .0) i (omega arith)
-    ]
+module _ (most : ℕ) (x : Stated) where
+  flat-at : (n : ℕ) → Quiet (flat most x n) → (i : ℕ) → i < n → Quiet (each most x i)
+  flat-at zero q i h = absurd (omega arith)
+  flat-at (suc n) q i h =
+      let r = quiet-parts (flat most x n) (subst Quiet (flat-suc most x n) q) in
+      elim (ℕ-discrete i n) [
+        | yes e ↦ subst (λ (k : ℕ). Quiet (each most x k)) (sym e) (r .1)
+        | no e ↦ flat-at n (r .0) i (omega arith)
+      ]
 
-flat-of : (sheet : List ℕ) (n : ℕ) → ((i : ℕ) → i < n → Quiet (certificateConditions sheet i)) → Quiet (flat sheet n)
-unfolding upTo flatMap
-flat-of sheet zero h = silent
-flat-of sheet (suc n) h =
-    subst Quiet (sym (flat-suc sheet n)) (quiet-append (flat-of sheet n (λ i l. h i (omega arith))) (h n (omega arith)))
+  flat-of : (n : ℕ) → ((i : ℕ) → i < n → Quiet (each most x i)) → Quiet (flat most x n)
+  unfolding upTo flatMap
+  flat-of zero h = silent
+  flat-of (suc n) h =
+      subst Quiet (sym (flat-suc most x n)) (quiet-append (flat-of n (λ i l. h i (omega arith))) (h n (omega arith)))
 
-pub certificate-quiet : (sheet : List ℕ) (i : ℕ) → Quiet (certificateConditions sheet i) ↔ Rules sheet i
-certificate-quiet sheet i =
-    let w = certificate-iff sheet i in
-    (λ q. w .0 (quiet-first q), λ r. four-quiet sheet i (w .1 r))
+  certificate-quiet : (i : ℕ) → Quiet (each most x i) ↔ Rules most (x .n) (x .representatives) (certificateAt x i)
+  certificate-quiet i =
+      let w = certificate-iff most (x .n) (x .representatives) (certificateAt x i) in
+      (λ q. w .0 (quiet-first q), λ r. four-quiet most x i (w .1 r))
 
-pub quiet-certificate : (sheet : List ℕ) → Quiet (judgeConditions sheet) → (i : ℕ) → i < certificateCount sheet
-    → Quiet (certificateConditions sheet i)
-unfolding judgeConditions
-quiet-certificate sheet q = flat-at sheet (certificateCount sheet) (quiet-parts (sheetConditions sheet) q .1)
+module _ (kind : Kind) (sheet : List ℕ) where
+  abbrev x : Stated
+  x = statedBy kind sheet
 
-pub accepted-rules : (sheet : List ℕ)
-    → (judgeOf sheet .number ≡ 0) ↔ (Quiet (sheetConditions sheet) × ((i : ℕ) → i < certificateCount sheet → Rules sheet i))
-unfolding judgeConditions
-accepted-rules sheet =
-    let w = accepted-iff sheet in (
-      λ e.
-          (quiet-parts (sheetConditions sheet) (w .0 e) .0, λ i h. certificate-quiet sheet i .0 (quiet-certificate sheet (w .0 e) i h)),
-      λ p. w .1
-          (quiet-append (p .0) (flat-of sheet (certificateCount sheet) (λ i h. certificate-quiet sheet i .1 (p .1 i h)))),
-    )
+  pub quiet-rules : Quiet (judgeConditions kind sheet) → (i : ℕ) → i < length (x .certificates)
+      → Rules (kind .mostTerms) (x .n) (x .representatives) (certificateAt x i)
+  unfolding judgeConditions
+  quiet-rules q i h =
+      certificate-quiet (kind .mostTerms) x i .0
+      (flat-at (kind .mostTerms) x (length (x .certificates))
+      (subst Quiet (flat-all (kind .mostTerms) x) (quiet-parts (sheetConditions kind sheet) q .1)) i h)
 
--- d, t and the number of terms in it are those of the working certificate
-pub accepted-record : (sheet : List ℕ) → judgeOf sheet .number ≡ 0 → judgeOf sheet ≡ returned (recordOf sheet)
-unfolding judgeOf settle
-accepted-record sheet e = ap (λ (r : ℕ). settle r (recordOf sheet) [] [] .0) (sym (judge-number sheet) ∙ e)
+  pub accepted-rules : (judgeBy kind sheet .number ≡ 0)
+      ↔ (Quiet (sheetConditions kind sheet)
+      × ((i : ℕ) → i < length (x .certificates) → Rules (kind .mostTerms) (x .n) (x .representatives) (certificateAt x i)))
+  unfolding judgeConditions
+  accepted-rules =
+      let w = accepted-iff kind sheet in (
+        λ e. (quiet-parts (sheetConditions kind sheet) (w .0 e) .0, quiet-rules (w .0 e)),
+        λ p. w .1
+            (quiet-append (p .0)
+            (subst Quiet (sym (flat-all (kind .mostTerms) x))
+            (flat-of (kind .mostTerms) x (length (x .certificates)) (λ i h. certificate-quiet (kind .mostTerms) x i .1 (p .1 i h))))),
+      )
+
+  -- d, t and the number of terms in it are those of the working certificate
+  pub accepted-record : judgeBy kind sheet .number ≡ 0 → judgeBy kind sheet ≡ returned (recordOf x)
+  unfolding judgeEntry settle
+  accepted-record e = ap (λ (r : ℕ). settle r (recordOf x) [] [] .0) (sym (judge-number kind sheet) ∙ e)

@@ -18,32 +18,29 @@ use Rattle.field.specs.Field.{masks, mask, fieldMultiply, fieldPower, α, order
 use Rattle.binary.specs.Factor.{coprime, degree, divides, common, period, terms}
 use Rattle.document.specs.Answer.{Answer, firstOf, settle}
 use Rattle.document.specs.Layout.{wordWeight, messageWeight, bytesFor, place, maskOf, byteOf, bytesOf, spare}
-use Rattle.document.specs.Sheet.{statedLength, codeLength, representativeCount, representativesAt, certificateCount, zeroOf}
-use Rattle.document.specs.Sheet.{certificatesAt, representatives, certificate}
+use Rattle.document.specs.Sheet.{certificateAt, statedBy, wrongLength, wrongCodeLength, wrongHeader}
 use Rattle.document.specs.Coset.{inCoset, smallest, inSet, definingSet, dimension}
 use Rattle.document.specs.Generator.{addPoly, timesRoot, rootProduct, generatorPoly, maskOfPoly, generator, isCodeword}
 use Rattle.document.specs.Generator.{encodeMask, messageOf, differences, nearest}
 use Rattle.document.specs.Certificate.{steps, ratio, extent, rule1, rule2, rule3, rule4, distance, radius, working}
-use Rattle.document.specs.Judge.{wrongLength, wrongCodeLength, wrongDegree, wrongHeader, wrongRepresentative, noMessage}
-use Rattle.document.specs.Judge.{sheetConditions, certificateConditions, judgeConditions, dimensionOf, workingOf}
-use Rattle.document.specs.Judge.{workingCertificate}
-use Rattle.document.specs.Judge.{recordOf, judgeOf}
-use Rattle.document.specs.Entry.{generatorOf, radiusOf, encodeConditions, encodedWord, encodeOf, readConditions, readOf}
-use Rattle.document.specs.Entry.{nearestMessage, decodedWord, decodeConditions, decodeOf}
-use Rattle.document.specs.Card.{decimalIn, decimal, codeLine, zerosLine, generatorLine, certificateLine, radiusLine, cardConditions, cardOf}
-use Rattle.document.specs.Card.{refusedLine, acceptedLines, listingFor, listing}
+use Rattle.document.specs.Judge.{wrongDegree, wrongRepresentative, noMessage, sheetConditions, certificateConditions}
+use Rattle.document.specs.Judge.{judgeConditions, dimensionOf, workingOf, workingCertificate, recordOf, judgeEntry}
+use Rattle.document.specs.Entry.{generatorOf, radiusOf, encodeConditions, encodedWord, encodeEntry, readConditions, readEntry}
+use Rattle.document.specs.Entry.{nearestMessage, decodedWord, decodeConditions, decodeEntry}
+use Rattle.document.specs.Card.{decimalIn, decimal, codeLine, zerosLine, generatorLine, certificateLine, radiusLine}
+use Rattle.document.specs.Card.{refusedLine, acceptedLines, listingFor, listingOf, cardConditions, cardEntry}
+use Rattle.document.specs.Short.{stated, judgeOf, encodeOf, readOf, decodeOf, listing, cardOf}
 
 -- all definitions, for the lemmas that compute
 definitions : ℕ
 unfolding leastFrom least upTo keep some every total _⊕_ size productBelow clmul divideDown remainder masks mask
     fieldMultiply fieldPower α orderOfTwo firstOf settle wordWeight messageWeight bytesFor place maskOf byteOf bytesOf
-    spare statedLength codeLength representativeCount representativesAt certificateCount zeroOf certificatesAt
-    representatives certificate inCoset smallest inSet definingSet dimension addPoly timesRoot rootProduct generatorPoly
+    spare certificateAt statedBy inCoset smallest inSet definingSet dimension addPoly timesRoot rootProduct generatorPoly
     maskOfPoly generator isCodeword encodeMask messageOf differences nearest degree coprime divides common period terms
     steps ratio extent rule1 rule2 rule3 rule4 distance radius working wrongLength wrongCodeLength wrongDegree wrongHeader
     wrongRepresentative noMessage sheetConditions certificateConditions judgeConditions dimensionOf workingOf
-    workingCertificate recordOf judgeOf generatorOf radiusOf encodeConditions encodedWord encodeOf readConditions readOf
-    nearestMessage decodedWord decodeConditions decodeOf flatMap
+    workingCertificate recordOf judgeEntry generatorOf radiusOf encodeConditions encodedWord encodeEntry readConditions
+    readEntry nearestMessage decodedWord decodeConditions decodeEntry flatMap
 definitions = 0
 
 -- a sheet of its numbers: n, representatives, certificates (b, z, f, h, L, all below 256)
@@ -85,27 +82,27 @@ facts sheet = pick (judgeOf sheet)
 -- the word of a message, both as masks
 encodes : List ℕ → ℕ → List ℕ
 encodes sheet message =
-    let n : ℕ = codeLength sheet in
-    let k : ℕ = dimensionOf sheet in
+    let n : ℕ = stated sheet .n in
+    let k : ℕ = dimensionOf (stated sheet) in
     let r = encodeOf sheet (bytesOf messageWeight k message) (replicate (bytesFor n) 0) in
     r .0 .number ∷ maskOf wordWeight n (r .1) ∷ []
 
 -- the answer to a received word: its number, what is returned, and the word written
 decodes : List ℕ → ℕ → List ℕ
 decodes sheet received =
-    let n : ℕ = codeLength sheet in
+    let n : ℕ = stated sheet .n in
     let r = decodeOf sheet (bytesOf wordWeight n received) (replicate (bytesFor n) 0) in
     r .0 .number ∷ r .0 .values ++ (maskOf wordWeight n (r .1) ∷ [])
 
 said : List (List ℕ)
 said =
-    (generatorOf sheetH ∷ facts sheetH)
+    (generatorOf (stated sheetH) ∷ facts sheetH)
     ∷ encodes sheetH 1
     ∷ encodes sheetH 2
     ∷ decodes sheetH 10
     ∷ decodes sheetH 1
     ∷ decodes sheetH 127
-    ∷ (generatorOf (sheetE 3) ∷ facts (sheetE 3) ++ facts (sheetE 4))
+    ∷ (generatorOf (stated (sheetE 3)) ∷ facts (sheetE 3) ++ facts (sheetE 4))
     ∷ decodes (sheetE 3) 3
     ∷ decodes (sheetE 3) 28
     ∷ facts (sheetS 9)
@@ -234,7 +231,7 @@ near-hold : near
     ∷ (0 ∷ 0 ∷ 3 ∷ 0 ∷ [])
     ∷ (11 ∷ 0xAA ∷ [])
     ∷ []
-unfolding near record-of answered twoCertificates certificateOf sheetH oneCertificate sheetOf cardOf cardConditions definitions
+unfolding near record-of answered twoCertificates certificateOf sheetH oneCertificate sheetOf cardEntry cardConditions definitions
 near-hold = refl
 
 -- ---- the listing
@@ -245,5 +242,5 @@ listing-holds : listing sheetH
     ∷ 103 ∷ 101 ∷ 110 ∷ 101 ∷ 114 ∷ 97 ∷ 116 ∷ 111 ∷ 114 ∷ 32 ∷ 49 ∷ 49 ∷ 48 ∷ 49 ∷ 10
     ∷ 99 ∷ 101 ∷ 114 ∷ 116 ∷ 32 ∷ 48 ∷ 32 ∷ 116 ∷ 101 ∷ 114 ∷ 109 ∷ 115 ∷ 32 ∷ 50 ∷ 32 ∷ 100 ∷ 105 ∷ 115 ∷ 116 ∷ 97 ∷ 110 ∷ 99 ∷ 101 ∷ 32 ∷ 51 ∷ 10
     ∷ 114 ∷ 97 ∷ 100 ∷ 105 ∷ 117 ∷ 115 ∷ 32 ∷ 49 ∷ 32 ∷ 102 ∷ 114 ∷ 111 ∷ 109 ∷ 32 ∷ 99 ∷ 101 ∷ 114 ∷ 116 ∷ 32 ∷ 48 ∷ 10 ∷ []
-unfolding listing listingFor acceptedLines codeLine zerosLine generatorLine certificateLine radiusLine refusedLine decimal decimalIn sheetH oneCertificate sheetOf definitions
+unfolding listingOf listingFor acceptedLines codeLine zerosLine generatorLine certificateLine radiusLine refusedLine decimal decimalIn sheetH oneCertificate sheetOf definitions
 listing-holds = refl

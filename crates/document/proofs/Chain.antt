@@ -2,23 +2,26 @@
 --
 --   first-true, first-false      the first of the conditions holds, or does not
 --   Quiet, first-quiet, quiet-append, first-keep      the first of two lists of conditions
---   flat-suc, four-quiet, flat-stop      the conditions of the certificates in turn
+--   each, flat, flat-all, flat-suc, four-quiet, flat-stop      the conditions of the certificates in turn, by their indices
 --   working-is, First, first-one, first-new, first-same      the working certificate among one more
 use mathlib.Core.Path.{_≡_, refl, sym, ap, _∙_, subst}
 use mathlib.Core.Bool.{Bool, true, false}
-use mathlib.Core.List.{List, [], _∷_, _++_, flatMap, append-assoc, append-nil}
+use mathlib.Core.List.{List, [], _∷_, _++_, map, flatMap, append-assoc, append-nil}
 use Prim.Native.Nat.{ℕ, zero, suc, _+_, _-_, _≤_, _<_}
 use native.Mathlib.Decide.{ℕ-discrete}
 use native.Mathlib.Omega.{arith}
 use lib.Dec.{leb}
+use lib.ListN.{length, getD}
 use borrow.Author.Tests.{le-leb, lt-leb}
 use Rattle.field.specs.Search.{upTo, every}
 use Rattle.field.proofs.Search.{least-is, least-unique, every-of, upTo-suc}
 use Rattle.binary.proofs.Coprime.{every-not}
 use Rattle.document.specs.Answer.{Conditions, firstOf}
+use Rattle.document.specs.Sheet.{Stated, certificateAt}
 use Rattle.document.specs.Certificate.{working}
 use Rattle.document.specs.Judge.{certificateConditions}
 use Rattle.document.proofs.Sane.{passed}
+use Rattle.document.proofs.Stated.{by-index}
 
 -- ---- conditions
 pub data Quiet : Conditions → Type 0 where
@@ -51,36 +54,51 @@ first-keep (c ∷ a) b r e = go (c .1) refl (first-keep a b r)
     go false q ih = first-false c (a ++ b) q ∙ ih (sym (first-false c a q) ∙ e)
 
 -- ---- the certificates in turn
-abbrev pub flat : List ℕ → ℕ → Conditions
-flat sheet i = flatMap (certificateConditions sheet) (upTo i)
+abbrev pub each : ℕ → Stated → ℕ → Conditions
+each most x i = certificateConditions most (x .n) (x .representatives) (certificateAt x i)
+
+abbrev pub flat : ℕ → Stated → ℕ → Conditions
+flat most x i = flatMap (each most x) (upTo i)
 
 flat-last : (f : ℕ → Conditions) (l : List ℕ) (x : ℕ) → flatMap f (l ++ (x ∷ [])) ≡ flatMap f l ++ f x
 unfolding flatMap
 flat-last f [] x = append-nil (f x)
 flat-last f (y ∷ l) x = ap (λ m. f y ++ m) (flat-last f l x) ∙ sym (append-assoc (f y) (flatMap f l) (f x))
 
-pub flat-suc : (sheet : List ℕ) (i : ℕ) → flat sheet (suc i) ≡ flat sheet i ++ certificateConditions sheet i
-flat-suc sheet i =
-    ap (flatMap (certificateConditions sheet)) (upTo-suc i) ∙ flat-last (certificateConditions sheet) (upTo i) i
+-- all certificates in turn, by their indices
+flat-map : {A : Type 0} (f : A → Conditions) (g : ℕ → A) (l : List ℕ) → flatMap f (map g l) ≡ flatMap (λ i. f (g i)) l
+unfolding flatMap
+flat-map f g [] = refl
+flat-map f g (i ∷ l) = ap (λ m. f (g i) ++ m) (flat-map f g l)
 
-pub four-quiet : (sheet : List ℕ) (i : ℕ) → firstOf (certificateConditions sheet i) ≡ 0 → Quiet (certificateConditions sheet i)
+pub flat-all : (most : ℕ) (x : Stated)
+    → flatMap (certificateConditions most (x .n) (x .representatives)) (x .certificates) ≡ flat most x (length (x .certificates))
+unfolding certificateAt
+flat-all most x =
+    ap (flatMap (certificateConditions most (x .n) (x .representatives))) (by-index (x .certificates) _)
+    ∙ flat-map (certificateConditions most (x .n) (x .representatives)) (λ i. getD (x .certificates) i _) (upTo (length (x .certificates)))
+
+pub flat-suc : (most : ℕ) (x : Stated) (i : ℕ) → flat most x (suc i) ≡ flat most x i ++ each most x i
+flat-suc most x i = ap (flatMap (each most x)) (upTo-suc i) ∙ flat-last (each most x) (upTo i) i
+
+pub four-quiet : (most : ℕ) (x : Stated) (i : ℕ) → firstOf (each most x i) ≡ 0 → Quiet (each most x i)
 unfolding certificateConditions
-four-quiet sheet i e =
+four-quiet most x i e =
     let p₁ = passed 6 _ _ e in
     let p₂ = passed 7 _ _ (p₁ .1) in
     let p₃ = passed 8 _ _ (p₂ .1) in
     let p₄ = passed 9 _ _ (p₃ .1) in
     passing (p₁ .0) (passing (p₂ .0) (passing (p₃ .0) (passing (p₄ .0) silent)))
 
-pub flat-stop : (sheet : List ℕ) (i r k : ℕ) → Quiet (flat sheet i) → firstOf (certificateConditions sheet i) ≡ suc r
-    → firstOf (flat sheet (suc i + k)) ≡ suc r
-flat-stop sheet i r zero q e =
+pub flat-stop : (most : ℕ) (x : Stated) (i r k : ℕ) → Quiet (flat most x i) → firstOf (each most x i) ≡ suc r
+    → firstOf (flat most x (suc i + k)) ≡ suc r
+flat-stop most x i r zero q e =
     let z : suc i + 0 ≡ suc i = omega arith in
-    ap (λ (x : ℕ). firstOf (flat sheet x)) z ∙ ap firstOf (flat-suc sheet i) ∙ first-quiet (certificateConditions sheet i) q ∙ e
-flat-stop sheet i r (suc k) q e =
+    ap (λ (y : ℕ). firstOf (flat most x y)) z ∙ ap firstOf (flat-suc most x i) ∙ first-quiet (each most x i) q ∙ e
+flat-stop most x i r (suc k) q e =
     let z : suc i + suc k ≡ suc (suc i + k) = omega arith in
-    ap (λ (x : ℕ). firstOf (flat sheet x)) z ∙ ap firstOf (flat-suc sheet (suc i + k))
-    ∙ first-keep (flat sheet (suc i + k)) (certificateConditions sheet (suc i + k)) r (flat-stop sheet i r k q e)
+    ap (λ (y : ℕ). firstOf (flat most x y)) z ∙ ap firstOf (flat-suc most x (suc i + k))
+    ∙ first-keep (flat most x (suc i + k)) (each most x (suc i + k)) r (flat-stop most x i r k q e)
 
 -- ---- the working certificate
 module _ (t : ℕ → ℕ) where

@@ -2,10 +2,11 @@
 pub mod Cases
 pub mod Sane
 pub mod Cosets
+pub mod Theory
+pub mod Stated
 pub mod Chain
 pub mod Acceptance
 pub mod Settled
-pub mod Theory
 pub mod GeneratorIs
 pub mod Demand2
 pub mod Join

@@ -6,8 +6,8 @@
 --   set-size            D has n - k members
 --   poly-length, poly-top      the generator has degree n - k: n - k + 1 coefficients, the highest of them 1
 --   empty-set, generator-nil      no representatives: D is empty, and the generator 1
---   empty-dimension, empty-generator      a sheet with R = 0 has k = n and generator 1
---   accepted-dimension  an accepted sheet has 1 ≤ k
+--   empty-dimension, empty-generator      with no representatives stated, k = n and the generator is 1
+--   accepted-dimension  an accepted sheet, of any kind, has 1 ≤ k
 use mathlib.Core.Path.{_≡_, refl, sym, ap, ap₂, _∙_, subst}
 use mathlib.Core.Logic.{_≢_}
 use mathlib.Core.Bool.{Bool, true, false}
@@ -17,7 +17,7 @@ use native.Mathlib.Nat.{sub-zero}
 use native.Mathlib.Decide.{decLt, ℕ-discrete}
 use native.Mathlib.Omega.{arith}
 use lib.Dec.{leb}
-use lib.ListN.{length, getD, take, drop, length-map, List·getD-eq-default}
+use lib.ListN.{length, getD, length-map, List·getD-eq-default}
 use borrow.Author.Tests.{eqb-false, leb-true, le-leb}
 use Rattle.field.specs.Search.{least, upTo, some, every, total}
 use Rattle.field.specs.Mask.{_⊕_}
@@ -26,12 +26,12 @@ use Rattle.field.proofs.Search.{least-is, least-most, keep-none, every-at, ever
 use Rattle.field.proofs.Search.{length-upTo, length-keep}
 use Rattle.field.proofs.Xor.{⊕-zero-r, ⊕-zero-l}
 use Rattle.document.specs.Answer.{Conditions, firstOf, settle}
-use Rattle.document.specs.Sheet.{codeLength, representativeCount, representatives, certificateCount, Certificate, certificate}
+use Rattle.document.specs.Sheet.{Certificate, Stated, certificateAt, Kind, statedBy, wrongLength, wrongCodeLength, wrongHeader}
 use Rattle.document.specs.Coset.{inSet, definingSet, dimension}
 use Rattle.document.specs.Generator.{addPoly, timesRoot, rootProduct, generatorPoly, maskOfPoly, generator}
 use Rattle.document.specs.Certificate.{distance, radius, working}
-use Rattle.document.specs.Judge.{sheetConditions, judgeConditions, dimensionOf, workingOf, workingCertificate, judgeOf}
-use Rattle.document.specs.Judge.{wrongLength, wrongCodeLength, wrongDegree, wrongHeader, wrongRepresentative, noMessage}
+use Rattle.document.specs.Judge.{wrongDegree, wrongRepresentative, noMessage, sheetConditions, judgeConditions}
+use Rattle.document.specs.Judge.{dimensionOf, workingOf, workingCertificate}
 use Rattle.document.specs.Entry.{generatorOf}
 
 pub distance-pos : (c : Certificate) → 1 ≤ distance c
@@ -69,10 +69,9 @@ working-most (suc n) t c h =
           (every-at (λ e. leb (t e) (t (least test (suc n)))) (suc n) (least-is test (suc n) .passes w) c h),
     )
 
-pub radius-most : (sheet : List ℕ) (c : ℕ) → c < certificateCount sheet
-    → radius (certificate sheet c) ≤ radius (workingCertificate sheet)
+pub radius-most : (x : Stated) (i : ℕ) → i < length (x .certificates) → radius (certificateAt x i) ≤ radius (workingCertificate x)
 unfolding workingCertificate workingOf
-radius-most sheet c h = working-most (certificateCount sheet) (λ c. radius (certificate sheet c)) c h .1
+radius-most x i h = working-most (length (x .certificates)) (λ i. radius (certificateAt x i)) i h .1
 
 -- ---- the generator
 pub add-at : (p q : List ℕ) (i : ℕ) → getD (addPoly p q) i 0 ≡ getD p i 0 ⊕ getD q i 0
@@ -129,23 +128,17 @@ pub empty-set : (n : ℕ) → definingSet n [] ≡ []
 unfolding definingSet inSet some
 empty-set n = keep-none (inSet n []) n (λ k h. refl)
 
-none : (sheet : List ℕ) → representativeCount sheet ≡ 0 → representatives sheet ≡ []
-unfolding representatives
-none sheet e = ap (λ (r : ℕ). take r (drop 10 sheet)) e
-
-pub empty-dimension : (sheet : List ℕ) → representativeCount sheet ≡ 0 → dimensionOf sheet ≡ codeLength sheet
+pub empty-dimension : (x : Stated) → x .representatives ≡ [] → dimensionOf x ≡ x .n
 unfolding dimensionOf dimension
-empty-dimension sheet e =
-    ap (dimension (codeLength sheet)) (none sheet e) ∙ ap (λ l. codeLength sheet - length l) (empty-set (codeLength sheet))
-    ∙ sub-zero (codeLength sheet)
+empty-dimension x e = ap (dimension (x .n)) e ∙ ap (λ l. x .n - length l) (empty-set (x .n)) ∙ sub-zero (x .n)
 
 pub generator-nil : (n : ℕ) → generator n [] ≡ 1
 unfolding generator generatorPoly rootProduct maskOfPoly total
 generator-nil n = ap (λ l. maskOfPoly (rootProduct (orderOfTwo n) (α (orderOfTwo n) n) l)) (empty-set n)
 
-pub empty-generator : (sheet : List ℕ) → representativeCount sheet ≡ 0 → generatorOf sheet ≡ 1
+pub empty-generator : (x : Stated) → x .representatives ≡ [] → generatorOf x ≡ 1
 unfolding generatorOf
-empty-generator sheet e = ap (generator (codeLength sheet)) (none sheet e) ∙ generator-nil (codeLength sheet)
+empty-generator x e = ap (generator (x .n)) e ∙ generator-nil (x .n)
 
 -- ---- accepted sheets
 pub passed : (r : ℕ) (b : Bool) (rest : Conditions) → firstOf ((suc r, b) ∷ rest) ≡ 0 → (b ≡ false) × (firstOf rest ≡ 0)
@@ -158,14 +151,15 @@ unfolding settle
 settle-number zero v w o = refl
 settle-number (suc r) v w o = refl
 
-pub accepted-dimension : (sheet : List ℕ) → judgeOf sheet .number ≡ 0 → 1 ≤ dimensionOf sheet
-unfolding judgeOf judgeConditions sheetConditions noMessage
-accepted-dimension sheet e =
-    let p₁ = passed 0 (wrongLength sheet) _ (sym (settle-number _ _ _ _) ∙ e) in
-    let p₂ = passed 1 (wrongCodeLength sheet) _ (p₁ .1) in
-    let p₃ = passed 2 (wrongDegree sheet) _ (p₂ .1) in
-    let p₄ = passed 3 (wrongHeader sheet) _ (p₃ .1) in
-    let p₅ = passed 4 (wrongRepresentative sheet) _ (p₄ .1) in
-    let p₆ = passed 5 (noMessage sheet) _ (p₅ .1) in
-    let n : dimensionOf sheet ≢ 0 = eqb-false (dimensionOf sheet) 0 (p₆ .0) in
+pub accepted-dimension : (kind : Kind) (sheet : List ℕ) → firstOf (judgeConditions kind sheet) ≡ 0 → 1 ≤ dimensionOf (statedBy kind sheet)
+unfolding judgeConditions sheetConditions noMessage dimensionOf
+accepted-dimension kind sheet e =
+    let x : Stated = statedBy kind sheet in
+    let p₁ = passed 0 (wrongLength kind sheet) _ e in
+    let p₂ = passed 1 (wrongCodeLength kind (x .n)) _ (p₁ .1) in
+    let p₃ = passed 2 (wrongDegree (x .n)) _ (p₂ .1) in
+    let p₄ = passed 3 (wrongHeader kind sheet) _ (p₃ .1) in
+    let p₅ = passed 4 (wrongRepresentative (x .n) (x .representatives)) _ (p₄ .1) in
+    let p₆ = passed 5 (noMessage (x .n) (x .representatives)) _ (p₅ .1) in
+    let n : dimensionOf x ≢ 0 = eqb-false (dimension (x .n) (x .representatives)) 0 (p₆ .0) in
     omega arith

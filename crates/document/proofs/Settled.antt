@@ -1,6 +1,8 @@
 -- What an entry answers, by its conditions.
 --
---   entry-sheet, entry-refused, entry-done      a refused sheet, a later condition, none: for any entry
+--   entry-sheet                 a refused sheet, for any entry
+--   entry-quiet                 an accepted one: its conditions may be left out
+--   entry-refused, entry-done   a later condition, none
 --   first-nil            no condition is left
 --   size-wrong, size-right      a buffer's length
 use mathlib.Core.Path.{_≡_, refl, sym, ap, _∙_}
@@ -13,35 +15,41 @@ use lib.ListN.{length}
 use borrow.Author.Tests.{eq-eqb, ne-eqb}
 use Rattle.document.specs.Answer.{Answer, returned, refused, Conditions, firstOf, settle}
 use Rattle.document.specs.Layout.{bytesFor}
-use Rattle.document.specs.Judge.{judgeConditions, recordOf, judgeOf}
+use Rattle.document.specs.Sheet.{Stated}
+use Rattle.document.specs.Judge.{recordOf, judgeEntry}
 use Rattle.document.specs.Entry.{wrongSize}
 use Rattle.document.proofs.Sane.{settle-number}
 use Rattle.document.proofs.Chain.{Quiet, first-quiet, first-keep}
 
--- ---- any entry
-module _ (sheet : List ℕ) (conds : Conditions) (v w old : List ℕ) where
+-- ---- any entry: the sheet's conditions, and its own
+module _ (sheet : Conditions) (x : Stated) (conds : Conditions) (v w old : List ℕ) where
   abbrev answer : Answer × List ℕ
-  answer = settle (firstOf (judgeConditions sheet ++ conds)) v w old
+  answer = settle (firstOf (sheet ++ conds)) v w old
 
-  settled : (r : ℕ) → firstOf (judgeConditions sheet ++ conds) ≡ suc r → (refused (suc r), old) ≡ answer
+  settled : (r : ℕ) → firstOf (sheet ++ conds) ≡ suc r → (refused (suc r), old) ≡ answer
   unfolding settle
   settled r e = sym (ap (λ (x : ℕ). settle x v w old) e)
 
-  judged-first : (r : ℕ) → refused (suc r) ≡ judgeOf sheet → firstOf (judgeConditions sheet) ≡ suc r
-  unfolding judgeOf
-  judged-first r e =
-      sym (settle-number (firstOf (judgeConditions sheet)) (recordOf sheet) [] []) ∙ sym (ap (λ (a : Answer). a .number) e)
+  judged-first : (r : ℕ) → refused (suc r) ≡ judgeEntry sheet x → firstOf sheet ≡ suc r
+  unfolding judgeEntry
+  judged-first r e = sym (settle-number (firstOf sheet) (recordOf x) [] []) ∙ sym (ap (λ (a : Answer). a .number) e)
 
-  pub entry-sheet : (r : ℕ) → 0 < r → refused r ≡ judgeOf sheet → (refused r, old) ≡ answer
+  pub entry-sheet : (r : ℕ) → 0 < r → refused r ≡ judgeEntry sheet x → (refused r, old) ≡ answer
   entry-sheet zero h e = absurd (omega arith)
-  entry-sheet (suc r) h e = settled r (first-keep (judgeConditions sheet) conds r (judged-first r e))
+  entry-sheet (suc r) h e = settled r (first-keep sheet conds r (judged-first r e))
 
-  pub entry-refused : (r : ℕ) → Quiet (judgeConditions sheet) → firstOf conds ≡ suc r → (refused (suc r), old) ≡ answer
-  entry-refused r q e = settled r (first-quiet conds q ∙ e)
+-- ---- an accepted sheet: its conditions are quiet
+module _ (conds : Conditions) (v w old : List ℕ) where
+  pub entry-quiet : {sheet : Conditions} → Quiet sheet → settle (firstOf conds) v w old ≡ settle (firstOf (sheet ++ conds)) v w old
+  entry-quiet q = ap (λ (r : ℕ). settle r v w old) (sym (first-quiet conds q))
 
-  pub entry-done : {w′ : List ℕ} → Quiet (judgeConditions sheet) → firstOf conds ≡ 0 → w′ ≡ w → (returned v, w′) ≡ answer
+  pub entry-refused : (r : ℕ) → firstOf conds ≡ suc r → (refused (suc r), old) ≡ settle (firstOf conds) v w old
   unfolding settle
-  entry-done q e f = ap (λ (x : List ℕ). (returned v, x)) f ∙ sym (ap (λ (x : ℕ). settle x v w old) (first-quiet conds q ∙ e))
+  entry-refused r e = sym (ap (λ (x : ℕ). settle x v w old) e)
+
+  pub entry-done : {w′ : List ℕ} → firstOf conds ≡ 0 → w′ ≡ w → (returned v, w′) ≡ settle (firstOf conds) v w old
+  unfolding settle
+  entry-done e f = ap (λ (x : List ℕ). (returned v, x)) f ∙ sym (ap (λ (x : ℕ). settle x v w old) e)
 
 -- ---- conditions
 pub first-nil : firstOf [] ≡ 0

@@ -3,8 +3,8 @@
 --   decimal n           a number in decimal digits
 --   codeWord .. refusedWord      the words
 --   codeLine .. radiusLine, refusedLine      the lines; codeText, certificateText, radiusText: by the numbers in them
---   listing sheet       the text
---   cardOf sheet out    the listing's length, and what a lent buffer of 1,024 bytes is afterwards
+--   listingOf conditions x       the text, by the conditions of a sheet's refusals and what it states
+--   cardEntry room conditions x out      the listing's length, and what a lent buffer of `room` bytes is afterwards
 use mathlib.Core.List.{List, [], _∷_, _++_, map, flatMap}
 use Prim.Native.Nat.{ℕ, zero, suc, _+_, _/_, _%_}
 use lib.Dec.{eqb, ltb}
@@ -13,11 +13,11 @@ use lib.ListN.{length, drop}
 use Rattle.field.specs.Search.{upTo}
 use Rattle.field.specs.Field.{orderOfTwo}
 use Rattle.document.specs.Answer.{Answer, Conditions, firstOf, settle}
-use Rattle.document.specs.Sheet.{codeLength, representatives, certificateCount, certificate}
+use Rattle.document.specs.Sheet.{Stated, certificateAt}
 use Rattle.document.specs.Coset.{definingSet}
 use Rattle.document.specs.Generator.{generatorPoly}
 use Rattle.document.specs.Certificate.{distance, radius}
-use Rattle.document.specs.Judge.{judgeConditions, dimensionOf, workingOf, workingCertificate}
+use Rattle.document.specs.Judge.{dimensionOf, workingOf, workingCertificate}
 
 -- a number below 10^n
 unfoldable pub decimalIn : ℕ → ℕ → List ℕ
@@ -67,52 +67,53 @@ refusedWord = 114 ∷ 101 ∷ 102 ∷ 117 ∷ 115 ∷ 101 ∷ 100 ∷ []  -- ref
 abbrev pub codeText : ℕ → ℕ → ℕ → List ℕ
 codeText n k s = codeWord ++ spaced n ++ spaced k ++ spaced s ++ newline
 
-unfoldable pub codeLine : List ℕ → List ℕ
-codeLine sheet = codeText (codeLength sheet) (dimensionOf sheet) (orderOfTwo (codeLength sheet))
+unfoldable pub codeLine : Stated → List ℕ
+codeLine x = codeText (x .n) (dimensionOf x) (orderOfTwo (x .n))
 
 -- "D rising (nothing after `zeros` if it is empty)"
-unfoldable pub zerosLine : List ℕ → List ℕ
-zerosLine sheet = zerosWord ++ flatMap spaced (definingSet (codeLength sheet) (representatives sheet)) ++ newline
+unfoldable pub zerosLine : Stated → List ℕ
+zerosLine x = zerosWord ++ flatMap spaced (definingSet (x .n) (x .representatives)) ++ newline
 
 -- "the generator from x^0 up"
-unfoldable pub generatorLine : List ℕ → List ℕ
-generatorLine sheet = generatorWord ++ map (λ c. 48 + c) (generatorPoly (codeLength sheet) (representatives sheet)) ++ newline
+unfoldable pub generatorLine : Stated → List ℕ
+generatorLine x = generatorWord ++ map (λ c. 48 + c) (generatorPoly (x .n) (x .representatives)) ++ newline
 
 -- "one line for each certificate with its index, L and d"
 abbrev pub certificateText : ℕ → ℕ → ℕ → List ℕ
 certificateText c terms d = certWord ++ spaced c ++ termsWord ++ spaced terms ++ distanceWord ++ spaced d ++ newline
 
-unfoldable pub certificateLine : List ℕ → ℕ → List ℕ
-certificateLine sheet c = certificateText c (certificate sheet c .L) (distance (certificate sheet c))
+unfoldable pub certificateLine : Stated → ℕ → List ℕ
+certificateLine x i = certificateText i (certificateAt x i .L) (distance (certificateAt x i))
 
 -- "t and the working index"
 abbrev pub radiusText : ℕ → ℕ → List ℕ
 radiusText t index = radiusWord ++ spaced t ++ fromWord ++ spaced index ++ newline
 
-unfoldable pub radiusLine : List ℕ → List ℕ
-radiusLine sheet = radiusText (radius (workingCertificate sheet)) (workingOf sheet)
+unfoldable pub radiusLine : Stated → List ℕ
+radiusLine x = radiusText (radius (workingCertificate x)) (workingOf x)
 
 -- "A refused sheet gives only one line: `refused`, one space and its number."
 unfoldable pub refusedLine : ℕ → List ℕ
 refusedLine r = refusedWord ++ spaced r ++ newline
 
-unfoldable pub acceptedLines : List ℕ → List ℕ
-acceptedLines sheet =
-    codeLine sheet ++ zerosLine sheet ++ generatorLine sheet
-    ++ flatMap (certificateLine sheet) (upTo (certificateCount sheet)) ++ radiusLine sheet
+unfoldable pub acceptedLines : Stated → List ℕ
+acceptedLines x =
+    codeLine x ++ zerosLine x ++ generatorLine x
+    ++ flatMap (certificateLine x) (upTo (length (x .certificates))) ++ radiusLine x
 
-unfoldable pub listingFor : ℕ → List ℕ → List ℕ
-listingFor zero sheet = acceptedLines sheet
-listingFor (suc r) sheet = refusedLine (suc r)
+unfoldable pub listingFor : ℕ → Stated → List ℕ
+listingFor zero x = acceptedLines x
+listingFor (suc r) x = refusedLine (suc r)
 
-unfoldable pub listing : List ℕ → List ℕ
-listing sheet = listingFor (firstOf (judgeConditions sheet)) sheet
+unfoldable pub listingOf : Conditions → Stated → List ℕ
+listingOf conditions x = listingFor (firstOf conditions) x
 
--- The lent buffer has 1,024 bytes, more than any listing takes. 11: an "output buffer hasn't its exact length"
-unfoldable pub cardConditions : List ℕ → Conditions
-cardConditions out = (11, not (eqb (length out) 1024)) ∷ []
+-- The lent buffer has `room` bytes. 11: an "output buffer hasn't its exact length"
+unfoldable pub cardConditions : ℕ → List ℕ → Conditions
+cardConditions room out = (11, not (eqb (length out) room)) ∷ []
 
 -- The listing's length; and in the buffer the listing, and what stood after its end.
-unfoldable pub cardOf : List ℕ → List ℕ → Answer × List ℕ
-cardOf sheet out =
-    settle (firstOf (cardConditions out)) (length (listing sheet) ∷ []) (listing sheet ++ drop (length (listing sheet)) out) out
+unfoldable pub cardEntry : ℕ → Conditions → Stated → List ℕ → Answer × List ℕ
+cardEntry room conditions x out =
+    let text : List ℕ = listingOf conditions x in
+    settle (firstOf (cardConditions room out)) (length text ∷ []) (text ++ drop (length text) out) out

@@ -25,12 +25,12 @@ ratio c =
     leb 1 (degree (c .f)) && leb (degree (c .f)) 8 && eqb (coefficient 0 (c .f)) 1 && not (eqb (c .h) 0)
     && ltb (degree (c .h)) (degree (c .f))
 
--- L is 1 to 1,023; its zero byte on the sheet is 0"
-unfoldable pub extent : Certificate → Bool
-extent c = leb 1 (c .L) && leb (c .L) 1023 && eqb (c .zeroByte) 0
+-- L is 1 to 1,023; its zero byte on the sheet is 0" The largest L is that of the kind of sheet.
+unfoldable pub extent : ℕ → Certificate → Bool
+extent most c = leb 1 (c .L) && leb (c .L) most && eqb (c .zeroField) 0
 
-unfoldable pub rule1 : ℕ → Certificate → Bool
-rule1 n c = steps n c && ratio c && extent c
+unfoldable pub rule1 : ℕ → ℕ → Certificate → Bool
+rule1 most n c = steps n c && ratio c && extent most c
 
 -- "2. h and f have no common factor"
 unfoldable pub rule2 : Certificate → Bool

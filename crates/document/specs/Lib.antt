@@ -7,3 +7,4 @@ pub mod Certificate
 pub mod Judge
 pub mod Entry
 pub mod Card
+pub mod Short

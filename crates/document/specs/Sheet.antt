@@ -1,69 +1,94 @@
--- The code sheet, field by field: "A header of counts and offsets, 16-bit numbers low byte first". A sheet is its bytes.
+-- What a sheet states, apart from how its bytes say it; and what a kind of sheet is.
 --
---   byteAt, numberAt                  a byte, and a 16-bit number
---   statedLength, codeLength .. zeroOf, certificatesAt     the header's fields
---   representatives                   its R representatives
---   Certificate, certificate s c      the eight bytes of certificate c, taken apart
-use mathlib.Core.List.{List}
-use Prim.Native.Nat.{ℕ, _+_, _*_}
-use lib.ListN.{getD, take, drop}
+--   Certificate, Stated            what a sheet states: n, its representatives, its certificates
+--   certificateAt x i              certificate i of what is stated
+--   Header, Kind                   a kind of sheet: how long it is, how many of each there may be, how its bytes are read
+--   wrongLength, wrongCodeLength, wrongHeader      conditions 1, 2 and 4, which belong to the kind
+--   statedBy kind sheet            what the bytes of a sheet of this kind state
+-- Short.antt has document 01's kind. Conditions 3 and 5 to 10, and all that an entry does, speak of what is stated.
+use mathlib.Core.Bool.{Bool, not, _||_}
+use mathlib.Core.List.{List, map}
+use Prim.Native.Nat.{ℕ, _%_}
+use lib.Dec.{eqb, ltb}
+use lib.ListN.{length, getD}
+use Rattle.field.specs.Search.{upTo}
 
-abbrev pub byteAt : List ℕ → ℕ → ℕ
-byteAt sheet i = getD sheet i 0
-
-abbrev pub numberAt : List ℕ → ℕ → ℕ
-numberAt sheet i = byteAt sheet i + 256 * byteAt sheet (i + 1)
-
--- 0-1: length of the whole sheet
-unfoldable pub statedLength : List ℕ → ℕ
-statedLength sheet = numberAt sheet 0
-
--- 2: n
-unfoldable pub codeLength : List ℕ → ℕ
-codeLength sheet = byteAt sheet 2
-
--- 3: R, number of representatives, 0 to 32
-unfoldable pub representativeCount : List ℕ → ℕ
-representativeCount sheet = byteAt sheet 3
-
--- 4-5: offset of the representatives, always 10
-unfoldable pub representativesAt : List ℕ → ℕ
-representativesAt sheet = numberAt sheet 4
-
--- 6: C, number of certificates, 1 to 4
-unfoldable pub certificateCount : List ℕ → ℕ
-certificateCount sheet = byteAt sheet 6
-
--- 7: 0
-unfoldable pub zeroOf : List ℕ → ℕ
-zeroOf sheet = byteAt sheet 7
-
--- 8-9: offset of the certificates, always 10 + R
-unfoldable pub certificatesAt : List ℕ → ℕ
-certificatesAt sheet = numberAt sheet 8
-
--- "Then R bytes: representatives"
-unfoldable pub representatives : List ℕ → List ℕ
-representatives sheet = take (representativeCount sheet) (drop 10 sheet)
-
--- "Then C times 8 bytes: b, z, f (two bytes), h, a byte 0, L (two bytes)."
+-- ---- what is stated
+-- "A certificate is a start b, a step z, masks f and h, and a number of terms L." Rule 1 asks that its zero on the sheet is 0.
 pub record Certificate : Type 0 where
   pub b : ℕ
   pub z : ℕ
   pub f : ℕ
   pub h : ℕ
-  pub zeroByte : ℕ
+  pub zeroField : ℕ
   pub L : ℕ
 
-abbrev certificateIn : List ℕ → ℕ → Certificate
-certificateIn sheet i = record {
-  b = byteAt sheet i;
-  z = byteAt sheet (i + 1);
-  f = numberAt sheet (i + 2);
-  h = byteAt sheet (i + 4);
-  zeroByte = byteAt sheet (i + 5);
-  L = numberAt sheet (i + 6);
+pub record Stated : Type 0 where
+  pub n : ℕ
+  pub representatives : List ℕ
+  pub certificates : List Certificate
+
+-- past the last there is none, and nothing asks for it
+abbrev noCertificate : Certificate
+noCertificate = record { b = 0; z = 0; f = 0; h = 0; zeroField = 0; L = 0 }
+
+unfoldable pub certificateAt : Stated → ℕ → Certificate
+certificateAt x i = getD (x .certificates) i noCertificate
+
+-- ---- kinds of sheets
+-- "A header of counts and offsets": the length of the whole sheet, n, the number R of representatives and their offset, the number
+-- C of certificates, a 0, and the certificates' offset
+pub record Header : Type 0 where
+  pub sheetLength : ℕ
+  pub n : ℕ
+  pub R : ℕ
+  pub representativesAt : ℕ
+  pub C : ℕ
+  pub zeroField : ℕ
+  pub certificatesAt : ℕ
+
+pub record Kind : Type 0 where
+  -- how long: the shortest and the longest sheet, the two offsets (the second by R), the length by R and C
+  pub shortest : ℕ
+  pub longest : ℕ
+  pub representativesFrom : ℕ
+  pub certificatesFrom : ℕ → ℕ
+  pub lengthOf : ℕ → ℕ → ℕ
+  -- how many: the largest n, R and L
+  pub mostPlaces : ℕ
+  pub mostRepresentatives : ℕ
+  pub mostTerms : ℕ
+  -- how to read: the header, representative i, certificate i
+  pub header : List ℕ → Header
+  pub representative : List ℕ → ℕ → ℕ
+  pub certificate : List ℕ → ℕ → Certificate
+
+unfoldable pub statedBy : Kind → List ℕ → Stated
+statedBy kind sheet = record {
+  n = kind .header sheet .n;
+  representatives = map (kind .representative sheet) (upTo (kind .header sheet .R));
+  certificates = map (kind .certificate sheet) (upTo (kind .header sheet .C));
 }
 
-unfoldable pub certificate : List ℕ → ℕ → Certificate
-certificate sheet c = certificateIn sheet (10 + representativeCount sheet + 8 * c)
+-- The conditions as document 01 says them of its own kind; another kind puts its own numbers in their place.
+-- 1: "under 10 or over 74 bytes, or bytes 0-1 differ from the true length"
+unfoldable pub wrongLength : Kind → List ℕ → Bool
+wrongLength kind sheet =
+    ltb (length sheet) (kind .shortest)
+    || ltb (kind .longest) (length sheet)
+    || not (eqb (kind .header sheet .sheetLength) (length sheet))
+
+-- 2: "n even, below 3 or above 127"
+unfoldable pub wrongCodeLength : Kind → ℕ → Bool
+wrongCodeLength kind n = eqb (n % 2) 0 || ltb n 3 || ltb (kind .mostPlaces) n
+
+-- 4: "a count, offset, byte 7 or the length formula is wrong"
+unfoldable pub wrongHeader : Kind → List ℕ → Bool
+wrongHeader kind sheet =
+    let h : Header = kind .header sheet in
+    ltb (kind .mostRepresentatives) (h .R)
+    || not (eqb (h .representativesAt) (kind .representativesFrom))
+    || (ltb (h .C) 1 || ltb 4 (h .C))
+    || not (eqb (h .zeroField) 0)
+    || not (eqb (h .certificatesAt) (kind .certificatesFrom (h .R)))
+    || not (eqb (length sheet) (kind .lengthOf (h .R) (h .C)))

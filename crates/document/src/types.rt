@@ -20,13 +20,13 @@ pub enum Refusal {
 
 // The record made of an accepted sheet: d, t and terms are those of its working certificate.
 pub struct Record {
-    pub n: usize,
-    pub k: usize,
-    pub s: usize,
-    pub working: usize,
-    pub d: usize,
-    pub t: usize,
-    pub terms: usize,
+    pub n: u16,
+    pub k: u16,
+    pub s: u16,
+    pub working: u16,
+    pub d: u16,
+    pub t: u16,
+    pub terms: u16,
 }
 
 pub enum Judged {

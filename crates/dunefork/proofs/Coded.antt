@@ -21,10 +21,10 @@ use Rattle.document.specs.declared.types.Refusal.the-variants.{SheetLength, Cod
 use Rattle.document.specs.declared.types.Refusal.the-variants.{CommonFactor, Period, Term, BufferLength, SpareBit, NoneNear, NoCodeword}
 use Rattle.document.specs.declared.types.Reply.{Reply}
 use Rattle.document.specs.Answer.{Answer, returned, refused, numberOf, repliedAs, settle}
-use Rattle.document.specs.Sheet.{codeLength}
 use Rattle.document.specs.Generator.{differences}
-use Rattle.document.specs.Card.{listing, cardOf}
-use Rattle.document.specs.Entry.{encodeOf, readOf, wordOf, decodedWord, decodeOf}
+use Rattle.document.specs.Card.{cardEntry}
+use Rattle.document.specs.Entry.{encodeEntry, readEntry, wordOf, decodedWord, decodeEntry}
+use Rattle.document.specs.Short.{stated, refusalsOf, encodeOf, readOf, decodeOf, listing, cardOf}
 use Rattle.field.specs.Mask.{_⊕_}
 use Rattle.field.proofs.Xor.{digit-lt}
 use Rattle.cyclic.proofs.Places.{count, count-z, count-s}
@@ -79,12 +79,12 @@ coded-done {n} {o} z e = sym (ap (λ (x : ℤ). (x, o)) (code-of n ∙ ap pos z)
 
 pub encode-done : (sheet message out : List ℕ) {n : ℕ} {o : List ℕ} → (returned (n ∷ []), o) ≡ encodeOf sheet message out
     → (pos 0, o) ≡ codedAs (encodeOf sheet message out)
-unfolding encodeOf
+unfolding encodeEntry
 encode-done sheet message out {n} e = coded-done (settled _ n 0 _ _ _ e) e
 
 pub read-done : (sheet word out : List ℕ) {n : ℕ} {o : List ℕ} → (returned (n ∷ []), o) ≡ readOf sheet word out
     → (pos 0, o) ≡ codedAs (readOf sheet word out)
-unfolding readOf
+unfolding readEntry
 read-done sheet word out {n} e = coded-done (settled _ n 0 _ _ _ e) e
 
 -- ---- decoding
@@ -92,19 +92,18 @@ count-le : (n e : ℕ) → count n e ≤ n
 count-le zero e = omega (arith, count-z e)
 count-le (suc n) e = omega (arith, count-s n e, count-le n e, digit-lt (e / 2 ^ n))
 
-changed-le : (sheet word out : List ℕ) {m : ℕ} {o : List ℕ} → (returned (m ∷ []), o) ≡ decodeOf sheet word out → m ≤ codeLength sheet
-unfolding decodeOf
+changed-le : (sheet word out : List ℕ) {m : ℕ} {o : List ℕ} → (returned (m ∷ []), o) ≡ decodeOf sheet word out → m ≤ stated sheet .n
+unfolding decodeEntry
 changed-le sheet word out {m} e =
-    let n : ℕ = codeLength sheet in
-    let v : m ≡ differences n (wordOf sheet word) (decodedWord sheet word) = settled _ m _ _ _ _ e in
-    omega (arith, v, differences-are n (wordOf sheet word) (decodedWord sheet word), count-le n (wordOf sheet word ⊕ decodedWord sheet word))
+    let x = stated sheet in
+    let v : m ≡ differences (x .n) (wordOf x word) (decodedWord x word) = settled _ m _ _ _ _ e in
+    omega (arith, v, differences-are (x .n) (wordOf x word) (decodedWord x word), count-le (x .n) (wordOf x word ⊕ decodedWord x word))
 
 pub fits : {m : ℕ} → m < 2147483648 → SFits w32 (pos m)
 fits h = record { sfits = omega arith }
 
-pub decode-few : (sheet word out : List ℕ) {m : ℕ} {o : List ℕ} → getD sheet 2 0 < 256 → (returned (m ∷ []), o) ≡ decodeOf sheet word out
+pub decode-few : (sheet word out : List ℕ) {m : ℕ} {o : List ℕ} → stated sheet .n < 65536 → (returned (m ∷ []), o) ≡ decodeOf sheet word out
     → m < 2147483648
-unfolding codeLength
 decode-few sheet word out h e = omega (arith, changed-le sheet word out e)
 
 -- ---- listing
@@ -117,11 +116,11 @@ listed-le zero {m} text old rest o e =
 listed-le (suc x) text old rest o e = let z : 0 ≡ suc x = ap (λ (a : Answer × List ℕ). a .0 .number) e in absurd (omega arith)
 
 pub card-few : (sheet out : List ℕ) {m : ℕ} {o : List ℕ} → length o ≡ length out → (returned (m ∷ []), o) ≡ cardOf sheet out → m < 2147483648
-unfolding cardOf
+unfolding cardEntry
 card-few sheet out {m} {o} l e =
     elim (ℕ-discrete (length out) 1024) [
       | yes q ↦ omega (arith, listed-le _ (listing sheet) out (drop (length (listing sheet)) out) o e)
-      | no q ↦ (let z : _≡_ {A = ℕ} 0 11 = ap (λ (a : Answer × List ℕ). a .0 .number) (e ∙ sym (card-size sheet out q)) in absurd (omega arith))
+      | no q ↦ (let z : _≡_ {A = ℕ} 0 11 = ap (λ (a : Answer × List ℕ). a .0 .number) (e ∙ sym (card-size 1024 (refusalsOf sheet) (stated sheet) out q)) in absurd (omega arith))
     ]
 
 pub counted-done : {m : ℕ} {o : List ℕ} {a : Answer × List ℕ} → SFits w32 (pos m) → (returned (m ∷ []), o) ≡ a → (toZ w32 m, o) ≡ codedAs a

@@ -2,8 +2,7 @@
 pub mod codes;
 
 ghost use mathlib.Core.Path.{_≡_};
-ghost use Rattle.document.specs.Entry.{encodeOf, readOf, decodeOf};
-ghost use Rattle.document.specs.Card.{cardOf};
+ghost use Rattle.document.specs.Short.{encodeOf, readOf, decodeOf, cardOf};
 ghost use Rattle.dunefork.specs.Codes.{codedAs};
 use crate::codes::refusal_code;
 use document::types::Reply;

@@ -66,7 +66,7 @@ fn times_coset(
 // The generator of the code of length n with these representatives, in place of the product 1; its degree. The bits hold 0
 // before and after.
 pub fn generator(
-    representatives: &[u8],
+    representatives: &[u16],
     n: usize,
     s: usize,
     product: &mut [u8],

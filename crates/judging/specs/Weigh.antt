@@ -1,25 +1,30 @@
 -- What the inner functions of judging pass to each other. No entry's contract cites this file.
 --
---   chosen, bestOf, weighedAs, weighOf, Weighable      what the weighing of all certificates says, and needs
---   Recordable, Judgeable      what the record needs, and what refusals 5 to 10 need
+--   statedAs n reps count w      what is stated, as the code holds it: certificates in a slice of numbers
+--   bestOf, weighedAs, distanceOfBest      the best certificate so far, and what the weighing of all answers
+--   weighOf, Weighable, WeighedBy      what the weighing of all certificates is to say, needs, and says
+--   recorded                     the record by the code's numbers
+--   statedConditions, judgeStated, Judgeable      refusals 5 to 10, and what they need
 use mathlib.Core.Path.{_≡_}
 use mathlib.Core.Bool.{Bool, true, false}
 use mathlib.Core.List.{List, [], _∷_, flatMap}
-use Prim.Native.Nat.{ℕ, _+_, _/_, _≤_, _<_}
+use Prim.Native.Nat.{ℕ, _+_, _-_, _*_, _/_, _≤_}
 use lib.Dec.{ltb}
 use lib.ListN.{length}
-use Rattle.field.specs.Search.{upTo}
 use Rattle.field.specs.Field.{orderOfTwo}
 use Rattle.judging.specs.declared.types.Best.{Best}
 use Rattle.judging.specs.declared.types.Weighed.{Weighed}
 use Rattle.judging.specs.declared.types.Weighed.the-variants.{Working, Refused as NotWeighed}
-use Rattle.document.specs.Answer.{Answer, returned, refused, numberOf, firstOf, settle}
-use Rattle.document.specs.Sheet.{codeLength, representativeCount, representatives, certificateCount}
-use Rattle.document.specs.Coset.{definingSet}
+use Rattle.document.specs.Answer.{Answer, returned, refused, numberOf, Conditions, firstOf, settle}
+use Rattle.document.specs.Sheet.{Stated}
 use Rattle.document.specs.Certificate.{distance}
-use Rattle.document.specs.Judge.{wrongLength, wrongCodeLength, wrongDegree, wrongHeader}
-use Rattle.document.specs.Judge.{certificateConditions, workingOf, workingCertificate}
-use Rattle.sheet.specs.Stage.{Headed, Marks}
+use Rattle.document.specs.Judge.{wrongRepresentative, noMessage, certificateConditions, workingOf, workingCertificate, judgeEntry}
+use Rattle.document.proofs.Theory.{Length}
+use Rattle.sheet.specs.Stage.{Marks, certificatesIn}
+use Rattle.certificate.specs.Rules.{Checkable}
+
+abbrev pub statedAs : ℕ → List ℕ → ℕ → List ℕ → Stated
+statedAs n reps count w = record { n = n; representatives = reps; certificates = certificatesIn count w }
 
 -- ---- all certificates
 abbrev pub chosen : Bool → Best → Best → Best
@@ -33,34 +38,42 @@ abbrev pub weighedAs : Weighed → Answer
 weighedAs (Working b) = returned (b .index ∷ b .d ∷ [])
 weighedAs (NotWeighed r) = refused (numberOf r)
 
-unfoldable pub weighOf : List ℕ → Answer
-weighOf sheet =
-    settle (firstOf (flatMap (certificateConditions sheet) (upTo (certificateCount sheet))))
-    (workingOf sheet ∷ distance (workingCertificate sheet) ∷ []) [] [] .0
+abbrev pub distanceOfBest : Weighed → ℕ
+distanceOfBest (Working b) = b .d
+distanceOfBest (NotWeighed r) = 0
 
-pub record Weighable (sheet : List ℕ) (n reps count : ℕ) (z : List ℕ) : Type 0 where
-  pub head : Headed sheet
-  pub n-is : n ≡ codeLength sheet
-  pub reps-is : reps ≡ representativeCount sheet
-  pub count-is : count ≡ certificateCount sheet
-  pub marks : Marks n (representatives sheet) z
+unfoldable pub weighOf : ℕ → Stated → Answer
+weighOf most x =
+    settle (firstOf (flatMap (certificateConditions most (x .n) (x .representatives)) (x .certificates)))
+    (workingOf x ∷ distance (workingCertificate x) ∷ []) [] [] .0
+
+pub record Weighable (most n count : ℕ) (w z : List ℕ) : Type 0 where
+  pub most-le : most ≤ 65527
+  pub checkable : Checkable n z
+  pub one : 1 ≤ count
+  pub few : count ≤ 65535
+  pub long : 6 * count ≤ length w
+
+pub record WeighedBy (most n count : ℕ) (w z : List ℕ) (answer : Answer) : Type 0 where
+  pub is : (reps : List ℕ) → Marks n reps z → answer ≡ weighOf most (statedAs n reps count w)
 
 -- ---- the whole
-pub record Recordable (sheet : List ℕ) (n s reps size : ℕ) (best : Best) : Type 0 where
-  pub head : Headed sheet
-  pub n-is : n ≡ codeLength sheet
-  pub s-is : s ≡ orderOfTwo n
-  pub reps-is : reps ≡ representativeCount sheet
-  pub size-is : size ≡ length (definingSet n (representatives sheet))
-  pub size-le : size ≤ n
-  pub index-is : best .index ≡ workingOf sheet
-  pub index-lt : best .index < certificateCount sheet
-  pub d-is : best .d ≡ distance (workingCertificate sheet)
-  pub d-pos : 1 ≤ best .d
+abbrev pub recorded : ℕ → ℕ → ℕ → Best → ℕ → List ℕ
+recorded n s size best terms = n ∷ (n - size) ∷ s ∷ best .index ∷ best .d ∷ ((best .d - 1) / 2) ∷ terms ∷ []
 
-pub record Judgeable (sheet : List ℕ) : Type 0 where
-  pub head : Headed sheet
-  pub not-1 : wrongLength sheet ≡ false
-  pub not-2 : wrongCodeLength sheet ≡ false
-  pub not-3 : wrongDegree sheet ≡ false
-  pub not-4 : wrongHeader sheet ≡ false
+unfoldable pub statedConditions : ℕ → Stated → Conditions
+statedConditions most x =
+    (5, wrongRepresentative (x .n) (x .representatives))
+    ∷ (6, noMessage (x .n) (x .representatives))
+    ∷ flatMap (certificateConditions most (x .n) (x .representatives)) (x .certificates)
+
+unfoldable pub judgeStated : ℕ → Stated → Answer
+judgeStated most x = judgeEntry (statedConditions most x) x
+
+pub record Judgeable (most n s count : ℕ) (w : List ℕ) : Type 0 where
+  pub length-of : Length n
+  pub s-is : s ≡ orderOfTwo n
+  pub most-le : most ≤ 65527
+  pub one : 1 ≤ count
+  pub few : count ≤ 65535
+  pub long : 6 * count ≤ length w

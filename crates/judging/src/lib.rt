@@ -1,4 +1,4 @@
-// A sheet that draws none of refusals 1 to 4: refusals 5 to 10, its working certificate and its record.
+// What a sheet states that draws none of refusals 1 to 4: refusals 5 to 10, the working certificate and the record.
 
 // the best certificate so far
 pub mod types;

@@ -1,27 +1,23 @@
-// The record made of a sheet.
+// The record made of what a sheet states.
 ghost use mathlib.Core.Path.{_≡_};
+ghost use Prim.Native.Nat.{_≤_};
 ghost use Rattle.document.specs.Answer.{recordAs};
-ghost use Rattle.document.specs.Judge.{recordOf};
-ghost use Rattle.judging.specs.Weigh.{Recordable};
+ghost use Rattle.judging.specs.Weigh.{recorded};
 use crate::types::Best;
 use document::types::Record;
-use sheet::header::number;
 
-// The record of an accepted sheet: size is that of D.
-pub fn record_of(sheet: &[u8], n: usize, s: usize, reps: usize, size: usize, best: Best) -> Record
-    requires { ⌜ Recordable (now sheet) n s reps size best ⌝ }
-    ensures { λ r. ⌜ recordAs r ≡ recordOf (now (sheet .entry)) ⌝ }
+// The record, by n, s, the size of D, the working certificate and its number of terms.
+pub fn record_of(n: usize, s: usize, size: usize, best: Best, terms: u16) -> Record
+    requires { ⌜ (size ≤ n) × (n ≤ 65535) × (s ≤ 65535) × (best .index ≤ 65535) × (1 ≤ best .d) × (best .d ≤ 65535) ⌝ }
+    ensures { λ r. ⌜ recordAs r ≡ recorded n s size best terms ⌝ }
 {
-    let index = best.index;
-    let d = best.d;
-    let terms = number(sheet, 10 + reps + 8 * index + 6);
     Record {
-        n,
-        k: n - size,
-        s,
-        working: index,
-        d,
-        t: (d - 1) / 2,
+        n: n as u16,
+        k: (n - size) as u16,
+        s: s as u16,
+        working: best.index as u16,
+        d: best.d as u16,
+        t: ((best.d - 1) / 2) as u16,
         terms,
     }
 }

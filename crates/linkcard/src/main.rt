@@ -3,7 +3,7 @@ ghost use mathlib.Core.Path.{_≡_};
 ghost use Prim.Native.Nat.{_≤_};
 ghost use lib.ListN.{length, take};
 ghost use Rattle.document.specs.Answer.{repliedAs};
-ghost use Rattle.document.specs.Card.{cardOf};
+ghost use Rattle.document.specs.Short.{cardOf};
 use code::card::card;
 use document::types::Reply;
 use libc::STDIN_FILENO;

@@ -3,6 +3,5 @@ pub mod Writing
 pub mod Decimals
 pub mod Pieces
 pub mod Members
-pub mod Certificates
 pub mod Whole
 pub mod Cards

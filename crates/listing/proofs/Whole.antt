@@ -1,113 +1,99 @@
--- The listing of an accepted sheet, from the numbers that its writer is lent.
+-- The listing of what an accepted sheet states, from the numbers that its writer is lent.
 --
---   ranges-of, sound-of, radius-short      what the writers of the lines need
---   accepted-is                            the lines are those of the definition
+--   row-is, rated-low    the line of a certificate, by the numbers that the code holds
+--   listed               the lines are those of the definition
 use mathlib.Core.Path.{_≡_, refl, sym, ap, ap₂, _∙_, subst}
 use mathlib.Core.List.{List, _++_, map, flatMap}
-use Prim.Native.Nat.{ℕ, _+_, _-_, _≤_, _<_}
+use Prim.Native.Nat.{ℕ, zero, suc, _+_, _-_, _≤_, _<_}
 use native.Mathlib.Omega.{arith}
+use lib.ListN.{length}
 use Rattle.field.specs.Field.{orderOfTwo}
-use Rattle.document.specs.Sheet.{byteAt, codeLength, representativeCount, representatives, certificateCount, certificate}
+use Rattle.binary.specs.Factor.{degree}
+use Rattle.document.specs.Sheet.{Certificate, Stated}
 use Rattle.document.specs.Coset.{definingSet, dimension}
 use Rattle.document.specs.Generator.{generatorPoly}
-use Rattle.document.specs.Certificate.{distance, radius, working}
-use Rattle.document.specs.Judge.{dimensionOf, workingOf, workingCertificate}
+use Rattle.document.specs.Certificate.{distance}
+use Rattle.document.specs.Judge.{dimensionOf}
 use Rattle.document.specs.Card.{spaced, newline, codeLine, zerosLine, generatorLine, certificateLine, radiusLine, acceptedLines}
-use Rattle.document.proofs.Sane.{working-most}
-use Rattle.document.proofs.Theory.{Length}
-use Rattle.sheet.proofs.Headed.{headed-length}
-use Rattle.document.specs.Card.{codeText, zerosWord, generatorWord, radiusText}
-use Rattle.listing.specs.Text.{Ranges, rows, codeTexts, zerosText, generatorText}
-use Rattle.listing.specs.Accepted.{CertificatesRuled, Listable}
-use Rattle.codeword.proofs.Spreading.{held-binary}
+use Rattle.document.specs.Card.{codeText, zerosWord, generatorWord, certificateText, radiusText}
+use Rattle.sheet.specs.declared.types.Certificate.{Certificate as CodeCertificate}
+use Rattle.sheet.specs.Stage.{certificateAs, certificateIn}
+use Rattle.listing.specs.Wrote.{Wrote}
+use Rattle.listing.specs.Text.{rows, codeTexts, zerosText, generatorText}
+use Rattle.listing.specs.Accepted.{Rated, certificateRow, Lists, PageListed}
+use Rattle.listing.proofs.Writing.{piece-is}
 use Rattle.listing.proofs.Members.{rows-flat, members-are, digits-are}
-use Rattle.listing.proofs.Certificates.{distance-le}
 
-reps-at : (sheet : List ℕ) {r : ℕ} → r ≡ byteAt sheet 3 → r ≡ representativeCount sheet
-unfolding representativeCount
-reps-at sheet e = e
+-- ---- a certificate
+pub row-is : (w : List ℕ) (i : ℕ) (c : CodeCertificate) {d : ℕ} → certificateAs c ≡ certificateIn w i → d ≡ distance (certificateAs c)
+    → certificateText i (c .terms) d ≡ certificateRow w i
+unfolding certificateRow
+row-is w i c e f = ap₂ (certificateText i) (ap (λ (k : Certificate). k .L) e) (f ∙ ap distance e)
 
-count-at : (sheet : List ℕ) {c : ℕ} → c ≡ byteAt sheet 6 → c ≡ certificateCount sheet
-unfolding certificateCount
-count-at sheet e = e
+-- its numbers, as the code holds them
+pub rated-low : (w : List ℕ) (i : ℕ) (c : CodeCertificate) → Rated w i → certificateAs c ≡ certificateIn w i
+    → (1 ≤ degree (c .f)) × (degree (c .f) ≤ 8) × (c .terms + 8 < 10000)
+rated-low w i c r e =
+    let f : c .f ≡ certificateIn w i .f = ap (λ (k : Certificate). k .f) e in
+    let l : c .terms ≡ certificateIn w i .L = ap (λ (k : Certificate). k .L) e in (
+      subst (λ (y : ℕ). 1 ≤ degree y) (sym f) (r .low),
+      subst (λ (y : ℕ). degree y ≤ 8) (sym f) (r .high),
+      subst (λ (y : ℕ). y + 8 < 10000) (sym l) (r .few),
+    )
 
-dimension-is : (sheet : List ℕ) → dimensionOf sheet ≡ dimension (codeLength sheet) (representatives sheet)
-unfolding dimensionOf
-dimension-is sheet = refl
+rows-same : (f g : ℕ → List ℕ) (n : ℕ) → ((i : ℕ) → i < n → f i ≡ g i) → rows f n ≡ rows g n
+unfolding rows
+rows-same f g zero h = refl
+rows-same f g (suc n) h = ap₂ (λ (a b : List ℕ). a ++ b) (rows-same f g n (λ i l. h i (omega arith))) (h n (omega arith))
 
-dimension-le : (n : ℕ) (reps : List ℕ) → dimension n reps ≤ n
-unfolding dimension
-dimension-le n reps = omega arith
+-- ---- what x states
+module _ {x : Stated} {n k s working t count : ℕ} {w zeros g : List ℕ} (l : Lists x n k s working t count w zeros g) where
+  dimension-is : dimensionOf x ≡ dimension (x .n) (x .representatives)
+  unfolding dimensionOf
+  dimension-is = refl
 
-working-lt : (sheet : List ℕ) → 1 ≤ certificateCount sheet → workingOf sheet < certificateCount sheet
-unfolding workingOf
-working-lt sheet h = working-most (certificateCount sheet) (λ c. radius (certificate sheet c)) 0 h .0
+  k-is : k ≡ dimension n (x .representatives)
+  k-is = l .k-is ∙ dimension-is ∙ ap (λ (y : ℕ). dimension y (x .representatives)) (sym (l .n-is))
 
-radius-le : (sheet : List ℕ) → distance (certificate sheet (workingOf sheet)) ≤ 1031 → radius (workingCertificate sheet) ≤ 515
-unfolding radius workingCertificate
-radius-le sheet h = omega arith
-
-module _ {sheet zeros g : List ℕ} {n k s working t : ℕ} (l : Listable sheet n k s working t zeros g) where
-  k-is : k ≡ dimension n (representatives sheet)
-  k-is = l .k-is ∙ dimension-is sheet ∙ ap (λ (x : ℕ). dimension x (representatives sheet)) (sym (l .n-is))
-
-  s-is : s ≡ orderOfTwo (codeLength sheet)
+  s-is : s ≡ orderOfTwo (x .n)
   s-is = l .s-is ∙ ap orderOfTwo (l .n-is)
 
-  pub ranges-of : Ranges n k s zeros g
-  ranges-of = record {
-    most = omega (arith, l .n-is, l .head .most);
-    dimension = omega (arith, k-is, dimension-le n (representatives sheet));
-    degree = omega (arith, s-is, l .head .degree);
-    marked = l .marks .long;
-    held = l .fits;
-    binary = held-binary (l .holds);
-  }
-
-  pub sound-of : {reps count : ℕ} → reps ≡ byteAt sheet 3 → count ≡ byteAt sheet 6 → CertificatesRuled sheet n reps count zeros
-  sound-of r c = record {
-    head = l .head;
-    passes = l .passes;
-    n-is = l .n-is;
-    reps-is = reps-at sheet r;
-    count-is = count-at sheet c;
-    marks = l .marks;
-  }
-
-  pub radius-short : (t < 10000) × (working < 10000)
-  radius-short =
-      let w = working-lt sheet (l .head .one) in
-      let d = distance-le sheet (workingOf sheet) (l .passes (workingOf sheet) w) in
-      (omega (arith, l .t-is, radius-le sheet d), omega (arith, l .working-is, w, l .head .four))
-
-  code-is : codeText n k s ≡ codeLine sheet
+  code-is : codeText n k s ≡ codeLine x
   unfolding codeLine
-  code-is = ap (λ (x : ℕ). codeText x k s) (l .n-is) ∙ ap₂ (codeText (codeLength sheet)) (l .k-is) s-is
+  code-is = ap (λ (y : ℕ). codeText y k s) (l .n-is) ∙ ap₂ (codeText (x .n)) (l .k-is) s-is
 
-  zeros-is : zerosText zeros n ≡ zerosLine sheet
+  zeros-is : zerosText zeros n ≡ zerosLine x
   unfolding zerosLine
   zeros-is =
-      ap (λ (x : List ℕ). zerosWord ++ x ++ newline)
-      (members-are (l .marks) ∙ ap (λ (x : ℕ). flatMap spaced (definingSet x (representatives sheet))) (l .n-is))
+      ap (λ (y : List ℕ). zerosWord ++ y ++ newline)
+      (members-are (l .marks) ∙ ap (λ (y : ℕ). flatMap spaced (definingSet y (x .representatives))) (l .n-is))
 
-  generator-is : generatorText g (n - k) ≡ generatorLine sheet
+  generator-is : generatorText g (n - k) ≡ generatorLine x
   unfolding generatorLine
   generator-is =
-      let length-is : Length n = subst Length (sym (l .n-is)) (headed-length (l .head)) in
-      ap (λ (x : List ℕ). generatorWord ++ x ++ newline)
-      (digits-are length-is (representatives sheet) (l .holds) (ap (λ (x : ℕ). n - x) k-is)
-      ∙ ap (λ (x : ℕ). map (λ (c : ℕ). 48 + c) (generatorPoly x (representatives sheet))) (l .n-is))
+      ap (λ (y : List ℕ). generatorWord ++ y ++ newline)
+      (digits-are (l .length-of) (x .representatives) (l .holds) (ap (λ (y : ℕ). n - y) k-is)
+      ∙ ap (λ (y : ℕ). map (λ (c : ℕ). 48 + c) (generatorPoly y (x .representatives))) (l .n-is))
 
-  radius-is : radiusText t working ≡ radiusLine sheet
+  line-is : (i : ℕ) → i < count → certificateRow w i ≡ certificateLine x i
+  unfolding certificateRow certificateLine
+  line-is i h = ap (λ (c : Certificate). certificateText i (c .L) (distance c)) (l .certificate-is i h)
+
+  radius-is : radiusText t working ≡ radiusLine x
   unfolding radiusLine
   radius-is = ap₂ radiusText (l .t-is) (l .working-is)
 
-  pub accepted-is : (count : ℕ) → count ≡ byteAt sheet 6
-      → codeTexts n k s zeros g ++ rows (certificateLine sheet) count ++ radiusText t working ≡ acceptedLines sheet
+  accepted-is : codeTexts n k s zeros g ++ rows (certificateRow w) count ++ radiusText t working ≡ acceptedLines x
   unfolding acceptedLines
-  accepted-is count e =
+  accepted-is =
       ap₂ (λ (a b : List ℕ). a ++ b)
       (ap₂ (λ (a b : List ℕ). a ++ b)
       (ap₂ (λ (a b : List ℕ). a ++ b) (ap₂ (λ (a b : List ℕ). a ++ b) code-is zeros-is) generator-is)
-      (ap (rows (certificateLine sheet)) (count-at sheet e) ∙ rows-flat (certificateLine sheet) (certificateCount sheet)))
+      (rows-same (certificateRow w) (certificateLine x) count line-is ∙ ap (rows (certificateLine x)) (l .count-is)
+      ∙ rows-flat (certificateLine x) (length (x .certificates))))
       radius-is
+
+pub listed : {n k s working t count : ℕ} {w zeros g out out′ : List ℕ} {r : ℕ}
+    → Wrote (codeTexts n k s zeros g ++ rows (certificateRow w) count ++ radiusText t working) 0 out out′ r
+    → PageListed n k s working t count w zeros g out out′ r
+listed y = record { is = λ x l. piece-is (accepted-is l) y }

@@ -39,9 +39,9 @@ abbrev pub codeTexts : ℕ → ℕ → ℕ → List ℕ → List ℕ → List �
 codeTexts n k s zeros g = codeText n k s ++ zerosText zeros n ++ generatorText g (n - k)
 
 pub record Ranges (n k s : ℕ) (zeros g : List ℕ) : Type 0 where
-  pub most : n ≤ 127
+  pub most : n < 10000
   pub dimension : k ≤ n
-  pub degree : s ≤ 12
+  pub degree : s < 10000
   pub marked : n ≤ length zeros
   pub held : n < length g
   pub binary : Binary g

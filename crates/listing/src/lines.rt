@@ -23,7 +23,7 @@ pub fn code_line(out: &mut [u8], at: usize, n: usize, k: usize, s: usize) -> usi
 }
 
 pub fn zeros_line(out: &mut [u8], at: usize, n: usize, zeros: &[u8]) -> usize
-    requires { ⌜ (at + 5 * n + 6 ≤ length (now out)) × (n ≤ 127) × (n ≤ length (now zeros)) ⌝ }
+    requires { ⌜ (at + 5 * n + 6 ≤ length (now out)) × (n < 10000) × (n ≤ length (now zeros)) ⌝ }
     ensures { λ r. ⌜ Wrote (zerosText (now (zeros .entry)) n) at (now (out .entry)) (now (out .exit)) r × (r ≤ at + 5 * n + 6) ⌝ }
 {
     let word = put_text(out, at, b"zeros");

@@ -20,7 +20,7 @@ fn put_member(out: &mut [u8], at: usize, i: usize, mark: usize) -> usize
 
 // The marked places below n, rising.
 pub fn put_members(out: &mut [u8], at: usize, n: usize, zeros: &[u8]) -> usize
-    requires { ⌜ (at + 5 * n ≤ length (now out)) × (n ≤ 127) × (n ≤ length (now zeros)) ⌝ }
+    requires { ⌜ (at + 5 * n ≤ length (now out)) × (n < 10000) × (n ≤ length (now zeros)) ⌝ }
     ensures { λ r. ⌜ Wrote (rows (memberIn (now (zeros .entry))) n) at (now (out .entry)) (now (out .exit)) r × (r ≤ at + 5 * n) ⌝ }
 {
     let mut end = at;

@@ -10,6 +10,7 @@ use mathlib.Core.List.{List}
 use Prim.Native.Nat.{ℕ, _+_, _-_, _*_, _/_, _%_, _^_, _≤_, _<_}
 use native.Mathlib.Omega.{arith}
 use lib.Bits.{bitXor}
+use Rattle.field.specs.Mask.{_⊕_}
 use lib.Dec.{eqb}
 use lib.ListN.{length, getD}
 use Rattle.field.specs.Tables.{Powered}
@@ -19,19 +20,19 @@ use Rattle.locator.specs.Locate.{NotedBelow, hits, Found}
 use Rattle.locator.proofs.TermSums.{Summing, summing-start, summing-one, summing-end}
 use Rattle.locator.proofs.Finding.{noted-below-le, noted-below-length, FindingBelow, below-start, below-four, below-all, below-many}
 
-pub record Neighbours (s constant count i : ℕ) (lg st e : List ℕ) (m first second third fourth : ℕ) : Type 0 where
+pub record Neighbours (s count i : ℕ) (lg st e : List ℕ) (m first second third fourth : ℕ) : Type 0 where
   pub powered : Powered s e
   pub logged : Logged s count lg st
   pub i-lt : i < 2 ^ s - 1
   pub m-le : m ≤ count
-  pub at-0 : Summing s constant lg st (λ k. 1) i m first
-  pub at-1 : Summing s constant lg st (λ k. 1) (i + 1) m second
-  pub at-2 : Summing s constant lg st (λ k. 1) (i + 2) m third
-  pub at-3 : Summing s constant lg st (λ k. 1) (i + 3) m fourth
+  pub at-0 : Summing s 0 lg st (λ k. 1) i m first
+  pub at-1 : Summing s 0 lg st (λ k. 1) (i + 1) m second
+  pub at-2 : Summing s 0 lg st (λ k. 1) (i + 2) m third
+  pub at-3 : Summing s 0 lg st (λ k. 1) (i + 3) m fourth
 
-pub neighbours-start : {s constant count i : ℕ} {lg st e : List ℕ}
+pub neighbours-start : {s count i : ℕ} {lg st e : List ℕ}
     → Powered s e × Logged s count lg st × (i < 2 ^ s - 1)
-    → Neighbours s constant count i lg st e 0 constant constant constant constant
+    → Neighbours s count i lg st e 0 0 0 0 0
 neighbours-start (p, l, h) = record {
   powered = p;
   logged = l;
@@ -43,10 +44,10 @@ neighbours-start (p, l, h) = record {
   at-3 = summing-start refl;
 }
 
-pub neighbours-more : {s constant count i m a b c d y : ℕ} {lg st e : List ℕ} → m < count
+pub neighbours-more : {s count i m a b c d y : ℕ} {lg st e : List ℕ} → m < count
     → (y ≡ (getD lg m 0 + i * getD st m 0) % 2 ^ s + (getD lg m 0 + i * getD st m 0) / 2 ^ s) × (y < 2 * (2 ^ s - 1))
-    → Neighbours s constant count i lg st e m a b c d
-    → Neighbours s constant count i lg st e (m + 1) (bitXor a (getD e y 0)) (bitXor b (getD e (y + getD st m 0) 0))
+    → Neighbours s count i lg st e m a b c d
+    → Neighbours s count i lg st e (m + 1) (bitXor a (getD e y 0)) (bitXor b (getD e (y + getD st m 0) 0))
     (bitXor c (getD e (y + 2 * getD st m 0) 0)) (bitXor d (getD e (y + 3 * getD st m 0) 0))
 neighbours-more {m = m} l (q, b) t =
     let p = t .powered in
@@ -62,28 +63,32 @@ neighbours-more {m = m} l (q, b) t =
       at-3 = summing-one _ (looked-on _ _ _ 3 p q b h (omega arith)) (t .at-3);
     }
 
-pub neighbours-end : {s constant count i m a b c d : ℕ} {lg st e : List ℕ} → count ≤ m
-    → Neighbours s constant count i lg st e m a b c d
-    → (a ≡ aloneAt s constant count lg st i) × (b ≡ aloneAt s constant count lg st (i + 1))
-    × (c ≡ aloneAt s constant count lg st (i + 2)) × (d ≡ aloneAt s constant count lg st (i + 3))
-unfolding aloneAt
-neighbours-end {count = count} {m = m} l t =
-    let all : m ≡ count = omega (arith, t .m-le) in
-    (summing-end all (t .at-0), summing-end all (t .at-1), summing-end all (t .at-2), summing-end all (t .at-3))
+pub neighbours-end : (constant : ℕ) {s count i m a b c d : ℕ} {lg st e : List ℕ} → count ≤ m
+    → Neighbours s count i lg st e m a b c d
+    → (bitXor constant a ≡ aloneAt s constant count lg st i) × (bitXor constant b ≡ aloneAt s constant count lg st (i + 1))
+    × (bitXor constant c ≡ aloneAt s constant count lg st (i + 2)) × (bitXor constant d ≡ aloneAt s constant count lg st (i + 3))
+unfolding aloneAt _⊕_
+neighbours-end constant {count = count} {m = m} l t =
+    let all : m ≡ count = omega (arith, t .m-le) in (
+      ap (bitXor constant) (summing-end all (t .at-0)),
+      ap (bitXor constant) (summing-end all (t .at-1)),
+      ap (bitXor constant) (summing-end all (t .at-2)),
+      ap (bitXor constant) (summing-end all (t .at-3)),
+    )
 
 -- ---- the search
 pub record Fours (n t s constant count : ℕ) (lg st e list₀ list : List ℕ) (c i : ℕ) : Type 0 where
   pub powered : Powered s e
   pub logged : Logged s count lg st
   pub n-le : n ≤ 2 ^ s - 1
-  pub few : n ≤ 256
+  pub few : n ≤ 65536
   pub kept : length list ≡ length list₀
   pub below : FindingBelow n (vanishesAlone s constant count lg st) i c list
   pub c-t : c ≤ t
   pub c-i : c ≤ i
 
 pub fours-start : {n t s constant count : ℕ} {lg st e list : List ℕ}
-    → Powered s e × Logged s count lg st × (n ≤ 2 ^ s - 1) × (n ≤ length list) × (n ≤ 256)
+    → Powered s e × Logged s count lg st × (n ≤ 2 ^ s - 1) × (n ≤ length list) × (n ≤ 65536)
     → Fours n t s constant count lg st e list list 0 0
 fours-start (p, l, h, o, k) = record {
   powered = p;

@@ -52,7 +52,6 @@ pub record Search (n s z f u len : ℕ) (lam e g lg st lo hi places : List ℕ) 
   pub modulus : Modulus f u
   pub locator : LocatorSlices s len lam lg st lo hi
   pub list-long : n ≤ length places
-  pub few : n ≤ 256
 
 pub record Located (n s z f t : ℕ) (lam places : List ℕ) (r : ℕ) : Type 0 where
   pub mask : ℕ

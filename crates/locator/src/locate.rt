@@ -22,7 +22,7 @@ pub fn locate(
     steps: &mut [u16],
     low: &mut [u64],
     high: &mut [u64],
-    places: &mut [u8],
+    places: &mut [u16],
 ) -> usize
     requires { ⌜ Search n s z f u len (now locator) (now powers) (now logs) (now exponents) (now steps) (now low) (now high) (now places) ⌝ }
     ensures { λ r. ⌜ Located n s z f t (now (locator .entry)) (now (places .exit)) r ⌝ }

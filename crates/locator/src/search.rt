@@ -12,17 +12,17 @@ use field::exponent::term;
 use syndrome::columns::wide;
 
 // Place i noted as the next of the list, where it is hit: 1 if so. Written in any case: no branch can guess it.
-pub fn note(hit: bool, places: &mut [u8], c: usize, i: usize) -> usize
-    requires { ⌜ (c < length (now places)) × (i < 256) ⌝ }
+pub fn note(hit: bool, places: &mut [u16], c: usize, i: usize) -> usize
+    requires { ⌜ (c < length (now places)) × (i < 65536) ⌝ }
     ensures { λ r. ⌜ Noted hit c i (now (places .entry)) (now (places .exit)) r ⌝ }
 {
-    places[c] = i as u8;
+    places[c] = i as u16;
     if hit { 1 } else { 0 }
 }
 
 // The same for a place that may lie past the last, and is none then.
-pub fn note_below(n: usize, hit: bool, places: &mut [u8], c: usize, i: usize) -> usize
-    requires { ⌜ (n ≤ length (now places)) × (n ≤ 256) × (c ≤ i) ⌝ }
+pub fn note_below(n: usize, hit: bool, places: &mut [u16], c: usize, i: usize) -> usize
+    requires { ⌜ (n ≤ length (now places)) × (n ≤ 65536) × (c ≤ i) ⌝ }
     ensures { λ r. ⌜ NotedBelow n hit c i (now (places .entry)) (now (places .exit)) r ⌝ }
 {
     if i < n {
@@ -47,10 +47,10 @@ pub fn four(
         × (r .third ≡ aloneAt s constant count (now (exponents .entry)) (now (steps .entry)) (i + 2))
         × (r .fourth ≡ aloneAt s constant count (now (exponents .entry)) (now (steps .entry)) (i + 3)) ⌝ }
 {
-    let mut first = constant;
-    let mut second = constant;
-    let mut third = constant;
-    let mut fourth = constant;
+    let mut first = 0u16;
+    let mut second = 0u16;
+    let mut third = 0u16;
+    let mut fourth = 0u16;
     let mut m: usize = 0;
     while m < count {
         let a = steps[m] as usize;
@@ -62,10 +62,10 @@ pub fn four(
         m = m + 1;
     }
     Four {
-        first,
-        second,
-        third,
-        fourth,
+        first: constant ^ first,
+        second: constant ^ second,
+        third: constant ^ third,
+        fourth: constant ^ fourth,
     }
 }
 
@@ -111,9 +111,9 @@ pub fn search(
     u: usize,
     s: usize,
     powers: &[u16],
-    places: &mut [u8],
+    places: &mut [u16],
 ) -> usize
-    requires { ⌜ Searchable s u count (now exponents) (now steps) (now low) (now high) (now powers) × (n ≤ 2 ^ s - 1) × (n ≤ length (now places)) × (n ≤ 256) ⌝ }
+    requires { ⌜ Searchable s u count (now exponents) (now steps) (now low) (now high) (now powers) × (n ≤ 2 ^ s - 1) × (n ≤ length (now places)) × (n ≤ 65536) ⌝ }
     ensures { λ r. ⌜ Found n t
         (hits n (vanishesOf s first count (now (exponents .entry)) (now (steps .entry)) (now (low .entry)) (now (high .entry))))
         (now (places .exit)) r ⌝ }
@@ -141,9 +141,9 @@ pub fn search_fours(
     count: usize,
     s: usize,
     powers: &[u16],
-    places: &mut [u8],
+    places: &mut [u16],
 ) -> usize
-    requires { ⌜ Powered s (now powers) × Logged s count (now exponents) (now steps) × (n ≤ 2 ^ s - 1) × (n ≤ length (now places)) × (n ≤ 256) ⌝ }
+    requires { ⌜ Powered s (now powers) × Logged s count (now exponents) (now steps) × (n ≤ 2 ^ s - 1) × (n ≤ length (now places)) × (n ≤ 65536) ⌝ }
     ensures { λ r. ⌜ Found n t (hits n (vanishesAlone s constant count (now (exponents .entry)) (now (steps .entry)))) (now (places .exit)) r ⌝ }
 {
     let mut c: usize = 0;

@@ -70,10 +70,6 @@ turned-more {n} {r} {j} {x} {low} {z} {z′} long h q t = record {
         let b = or-none (met n r j i) (eqb (r * 2 ^ j % n) i) (sym (some-suc (λ k. eqb (r * 2 ^ k % n) i) j) ∙ e) in
         getD-set-other z′ x i 1 0 (λ p. eqb-false (r * 2 ^ j % n) i (b .1) (sym q ∙ sym p)) ∙ t .outside i (b .0)
 
-    is-low : (Dec (x < r)) → (isBelow x r ≡ 0) ⊎ (isBelow x r ≡ 1)
-    is-low (yes l) = inr (ap bit (lt-ltb x r l))
-    is-low (no l) = inl (ap bit (le-ltb x r (omega arith)))
-
     low-cases : (Dec (x < r)) → ((isBelow x r ≡ 0) × (leb r (r * 2 ^ j % n) ≡ true)) ⊎ ((isBelow x r ≡ 1) × (leb r (r * 2 ^ j % n) ≡ false))
     low-cases (yes l) = inr (ap bit (lt-ltb x r l), subst (λ (y : ℕ). leb r y ≡ false) q (lt-leb r x l))
     low-cases (no l) = inl (ap bit (le-ltb x r (omega arith)), subst (λ (y : ℕ). leb r y ≡ true) q (le-leb r x (omega arith)))

@@ -5,9 +5,7 @@ ghost use Prim.Native.Nat.{_<_, _≤_};
 ghost use lib.ListN.{length, getD};
 ghost use Rattle.field.specs.Search.{total};
 ghost use Rattle.field.specs.Field.{OddLength, orderOfTwo};
-ghost use Rattle.document.specs.Sheet.{codeLength, representativeCount};
-ghost use Rattle.sheet.specs.Stage.{Headed, Marked, Marks, SetMarked, isBelow};
-use crate::header::byte;
+ghost use Rattle.sheet.specs.Stage.{Marked, Marks, SetMarked, isBelow};
 
 // 1 where x is below r, else 0.
 fn below(x: usize, r: usize) -> usize
@@ -34,20 +32,15 @@ fn mark(n: usize, s: usize, r: usize, zeros: &mut [u8]) -> usize
 }
 
 // Refusal 5, with D marked where it is not drawn.
-pub fn wrong_representative(
-    sheet: &[u8],
-    n: usize,
-    s: usize,
-    count: usize,
-    zeros: &mut [u8],
-) -> bool
-    requires { ⌜ Headed (now sheet) × (n ≡ codeLength (now sheet)) × (s ≡ orderOfTwo n) × (count ≡ representativeCount (now sheet)) × Marks n [] (now zeros) ⌝ }
-    ensures { λ r. ⌜ SetMarked (now (sheet .entry)) (now (zeros .exit)) r ⌝ }
+pub fn wrong_representative(n: usize, s: usize, representatives: &[u16], zeros: &mut [u8]) -> bool
+    requires { ⌜ OddLength n × (s ≡ orderOfTwo n) × Marks n [] (now zeros) ⌝ }
+    ensures { λ r. ⌜ SetMarked n (now (representatives .entry)) (now (zeros .exit)) r ⌝ }
 {
+    let count = representatives.len();
     let mut least: usize = 0;
     let mut i: usize = 0;
     while i < count {
-        let r = byte(sheet, 10 + i);
+        let r = representatives[i] as usize;
         if n <= r {
             return true;
         }

@@ -1,10 +1,9 @@
-// The sheet's header: the conditions of refusals 1 to 4, each tried where those before it do not hold.
+// The header of document 01's sheets: its numbers, and the conditions of refusals 1, 2 and 4.
 ghost use mathlib.Core.Path.{_≡_};
-ghost use mathlib.Core.Bool.{false};
 ghost use Prim.Native.Nat.{_+_, _<_, _≤_};
 ghost use lib.ListN.{length};
-ghost use Rattle.document.specs.Sheet.{byteAt, numberAt};
-ghost use Rattle.document.specs.Judge.{wrongLength, wrongCodeLength, wrongDegree, wrongHeader};
+ghost use Rattle.document.specs.Sheet.{wrongLength, wrongCodeLength, wrongHeader};
+ghost use Rattle.document.specs.Short.{byteAt, numberAt, short, stated};
 
 pub fn byte(sheet: &[u8], i: usize) -> usize
     requires { ⌜ i < length (now sheet) ⌝ }
@@ -23,7 +22,7 @@ pub fn number(sheet: &[u8], i: usize) -> usize
 
 // Refusal 1.
 pub fn wrong_length(sheet: &[u8]) -> bool
-    ensures { λ r. ⌜ r ≡ wrongLength (now (sheet .entry)) ⌝ }
+    ensures { λ r. ⌜ r ≡ wrongLength short (now (sheet .entry)) ⌝ }
 {
     let len = sheet.len();
     if len < 10 {
@@ -38,12 +37,18 @@ pub fn wrong_length(sheet: &[u8]) -> bool
     false
 }
 
-// Refusal 2.
-pub fn wrong_code_length(sheet: &[u8]) -> bool
+// n.
+pub fn code_length(sheet: &[u8]) -> usize
     requires { ⌜ 10 ≤ length (now sheet) ⌝ }
-    ensures { λ r. ⌜ r ≡ wrongCodeLength (now (sheet .entry)) ⌝ }
+    ensures { λ r. ⌜ (r ≡ stated (now (sheet .entry)) .n) × (r < 256) ⌝ }
 {
-    let n = byte(sheet, 2);
+    byte(sheet, 2)
+}
+
+// Refusal 2.
+pub fn wrong_code_length(n: usize) -> bool
+    ensures { λ r. ⌜ r ≡ wrongCodeLength short n ⌝ }
+{
     if n % 2 == 0 {
         return true;
     }
@@ -56,22 +61,10 @@ pub fn wrong_code_length(sheet: &[u8]) -> bool
     false
 }
 
-// Refusal 3.
-pub fn wrong_degree(sheet: &[u8]) -> bool
-    requires { ⌜ (10 ≤ length (now sheet)) × (wrongCodeLength (now sheet) ≡ false) ⌝ }
-    ensures { λ r. ⌜ r ≡ wrongDegree (now (sheet .entry)) ⌝ }
-{
-    let n = byte(sheet, 2);
-    if 12 < field::order::order_of_two(n) {
-        return true;
-    }
-    false
-}
-
 // Refusal 4.
 pub fn wrong_header(sheet: &[u8]) -> bool
     requires { ⌜ 10 ≤ length (now sheet) ⌝ }
-    ensures { λ r. ⌜ r ≡ wrongHeader (now (sheet .entry)) ⌝ }
+    ensures { λ r. ⌜ r ≡ wrongHeader short (now (sheet .entry)) ⌝ }
 {
     let reps = byte(sheet, 3);
     let certs = byte(sheet, 6);

@@ -1,13 +1,13 @@
 -- Columns of a word, and the sums of powers over their lanes.
 --
---   column-is          a column, as the code puts it together; column-le: no lane holds more than 1
+--   column-is, column-of      a column, as the code puts it together; column-le: no lane holds more than 1
 --   Columning, columning-start, columning-more, columning-end      the first k columns
 --   run-z, run-s       sums, one place more
 --   Stripping, stripping-start, stripping-two, stripping-end       the sums over the first i columns
 --   power-fits         a column times a power is below 2^64
 use mathlib.Core.Path.{_≡_, refl, sym, ap, ap₂, _∙_, subst}
 use mathlib.Core.List.{List}
-use Prim.Native.Nat.{ℕ, suc, _+_, _*_, _^_, _≤_, _<_}
+use Prim.Native.Nat.{ℕ, suc, _+_, _*_, _/_, _^_, _≤_, _<_}
 use native.Mathlib.Nat.{mul-le-mul, one-mul, zero-mul}
 use native.Mathlib.Decide.{ℕ-discrete}
 use native.Mathlib.Numerals.{add-one}
@@ -21,7 +21,10 @@ use Rattle.field.specs.Field.{Degree, ω, fieldPower}
 use Rattle.field.proofs.Primitive.{Degree-bounds}
 use Rattle.field.proofs.Numbers.{power-lt}
 use Rattle.syndrome.specs.Lanes.{inLanes, lane}
-use Rattle.syndrome.specs.Columns.{runSum, column, Columned, Summable, Strips}
+use Rattle.document.specs.Layout.{wordWeight, place}
+use Rattle.codeword.specs.Place.{placesOf}
+use Rattle.codeword.proofs.Places.{places-length, places-at}
+use Rattle.syndrome.specs.Columns.{runSum, column, Columnable, Columned, Summable, Strips}
 use Rattle.syndrome.proofs.Lanes.{spaced-are, spaced-le, lane-add, lane-zero, lane-times}
 
 -- ---- columns
@@ -33,6 +36,20 @@ column-is b i w =
     let one : b + i ≡ 1 * b + i = omega (arith, one-mul b) in
     ap₂ (λ (x y : ℕ). ((getD w (3 * b + i) 0 * 65536 + getD w (2 * b + i) 0) * 65536 + getD w x 0) * 65536 + getD w y 0) one none
     ∙ spaced-are (λ j. getD w (j * b + i) 0)
+
+-- of a word's bytes
+module _ {b i : ℕ} (word : List ℕ) (c : Columnable b (placesOf word)) (h : i < b) where
+  pub place-in : {k : ℕ} → k < 4 * b → k / 8 < length word
+  place-in l = omega (arith, c .long, places-length word)
+
+  pub column-of : {p q r s : ℕ} → p ≡ place wordWeight word i → q ≡ place wordWeight word (b + i) → r ≡ place wordWeight word (2 * b + i)
+      → s ≡ place wordWeight word (3 * b + i) → ((s * 65536 + r) * 65536 + q) * 65536 + p ≡ column b (placesOf word) i
+  column-of e f g k =
+      let at : (j : ℕ) → j < 4 * b → place wordWeight word j ≡ getD (placesOf word) j 0 =
+      λ j l. sym (places-at word j (omega (arith, c .long, places-length word))) in
+      (λ x. (((k ∙ at (3 * b + i) (omega arith)) x * 65536 + (g ∙ at (2 * b + i) (omega arith)) x) * 65536 + (f ∙ at (b + i) (omega arith)) x) * 65536
+      + (e ∙ at i (omega arith)) x)
+      ∙ column-is b i (placesOf word)
 
 pub column-le : (b : ℕ) (w : List ℕ) (i : ℕ) → ((k : ℕ) → getD w k 0 < 2) → column b w i ≤ 281479271743489
 unfolding column inLanes total

@@ -12,8 +12,9 @@ use native.Mathlib.Omega.{arith}
 use lib.ListN.{length, getD, set}
 use lib.Seq.{getD-set-same, getD-set-other}
 use Rattle.binary.specs.Factor.{terms}
-use Rattle.certificate.specs.declared.types.Certificate.{Certificate as CodeCertificate}
-use Rattle.certificate.specs.Rules.{Walkable, certificateAs}
+use Rattle.sheet.specs.declared.types.Certificate.{Certificate as CodeCertificate}
+use Rattle.sheet.specs.Stage.{certificateAs}
+use Rattle.certificate.specs.Rules.{Walkable}
 use Rattle.certificate.proofs.Terms.{At, term}
 use Rattle.syndrome.specs.Series.{SyndromesOf}
 

@@ -8,7 +8,7 @@ use field::exponent::term;
 use field::product::order;
 
 // The sum of ω^(i by) over the first c places i of the list.
-pub fn value(places: &[u8], c: usize, s: usize, by: u16, powers: &[u16]) -> u16
+pub fn value(places: &[u16], c: usize, s: usize, by: u16, powers: &[u16]) -> u16
     requires { ⌜ Valuable c s by (now places) (now powers) ⌝ }
     ensures { λ r. ⌜ (r ≡ sumOver (λ i. fieldPower s ω (i * by)) (now (places .entry)) c) × (r < 2 ^ s) ⌝ }
 {
@@ -24,11 +24,11 @@ pub fn value(places: &[u8], c: usize, s: usize, by: u16, powers: &[u16]) -> u16
 // Whether the m listed places have the value of the received word at each representative: then their sum, the word with these
 // places changed, has the value 0 there, and is a codeword.
 pub fn agrees(
-    places: &[u8],
+    places: &[u16],
     m: usize,
     n: usize,
     s: usize,
-    representatives: &[u8],
+    representatives: &[u16],
     values: &[u16],
     powers: &[u16],
 ) -> bool

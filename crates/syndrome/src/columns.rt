@@ -4,30 +4,32 @@ ghost use mathlib.Core.Path.{_≡_};
 ghost use Prim.Native.Nat.{_<_, _≤_};
 ghost use lib.ListN.{length};
 ghost use Rattle.field.specs.Tables.{Tables};
+ghost use Rattle.codeword.specs.Place.{placesOf};
 ghost use Rattle.syndrome.specs.Columns.{column as columnOf, Columnable, Columned, Summable, Strips, Valued};
+use codeword::layout::word_place;
 use field::exponent::index;
 use field::logarithm::scaled;
 
 // Places i, i + width, i + 2 width and i + 3 width, 16 places apart.
-fn column(bits: &[u8], width: usize, i: usize) -> u64
-    requires { ⌜ Columnable width (now bits) × (i < width) ⌝ }
-    ensures { λ r. ⌜ r ≡ columnOf width (now (bits .entry)) i ⌝ }
+fn column(word: &[u8], width: usize, i: usize) -> u64
+    requires { ⌜ Columnable width (placesOf (now word)) × (i < width) ⌝ }
+    ensures { λ r. ⌜ r ≡ columnOf width (placesOf (now (word .entry))) i ⌝ }
 {
-    let first = bits[i] as u64;
-    let second = bits[width + i] as u64;
-    let third = bits[2 * width + i] as u64;
-    let fourth = bits[3 * width + i] as u64;
+    let first = word_place(word, i) as u64;
+    let second = word_place(word, width + i) as u64;
+    let third = word_place(word, 2 * width + i) as u64;
+    let fourth = word_place(word, 3 * width + i) as u64;
     ((fourth * 65536 + third) * 65536 + second) * 65536 + first
 }
 
 // All columns of a word.
-pub fn fill_columns(bits: &[u8], width: usize, columns: &mut [u64])
-    requires { ⌜ Columnable width (now bits) × (width ≤ length (now columns)) ⌝ }
-    ensures { λ _. ⌜ Columned width (now (bits .entry)) (now (columns .exit)) ⌝ }
+pub fn fill_columns(word: &[u8], width: usize, columns: &mut [u64])
+    requires { ⌜ Columnable width (placesOf (now word)) × (width ≤ length (now columns)) ⌝ }
+    ensures { λ _. ⌜ Columned width (placesOf (now (word .entry))) (now (columns .exit)) ⌝ }
 {
     let mut i: usize = 0;
     while i < width {
-        columns[i] = column(bits, width, i);
+        columns[i] = column(word, width, i);
         i = i + 1;
     }
 }

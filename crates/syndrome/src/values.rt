@@ -3,6 +3,7 @@
 ghost use mathlib.Core.Path.{_≡_};
 ghost use mathlib.Core.Bool.{_&&_};
 ghost use lib.Dec.{eqb};
+ghost use Rattle.codeword.specs.Place.{placesOf};
 ghost use Rattle.syndrome.specs.Value.{Conjugable, Conjugated, Computable, Computed, ValuesTested, Extendable, Extended};
 use crate::columns::fill_columns;
 use crate::columns::value_by_columns;
@@ -43,20 +44,20 @@ fn quiet(clean: bool, v: u16) -> bool
 
 // The values of a word at the representatives, and whether it is a codeword: whether all are 0. Its columns are filled on the way.
 pub fn evaluate(
-    bits: &[u8],
+    word: &[u8],
     n: usize,
     s: usize,
-    representatives: &[u8],
+    representatives: &[u16],
     powers: &[u16],
     logs: &[u16],
     columns: &mut [u64],
     values: &mut [u16],
 ) -> bool
-    requires { ⌜ Computable n s (now bits) (now representatives) (now powers) (now logs) (now columns) (now values) ⌝ }
-    ensures { λ r. ⌜ Computed n s (now (bits .entry)) (now (representatives .entry)) (now (values .exit)) × ValuesTested n (now (bits .entry)) (now (representatives .entry)) r ⌝ }
+    requires { ⌜ Computable n s (placesOf (now word)) (now representatives) (now powers) (now logs) (now columns) (now values) ⌝ }
+    ensures { λ r. ⌜ Computed n s (placesOf (now (word .entry))) (now (representatives .entry)) (now (values .exit)) × ValuesTested n (placesOf (now (word .entry))) (now (representatives .entry)) r ⌝ }
 {
     let width = (n + 7) / 8 * 2;
-    fill_columns(bits, width, columns);
+    fill_columns(word, width, columns);
     let q = order(s) / n;
     let count = representatives.len();
     let mut clean = true;
@@ -75,7 +76,7 @@ pub fn evaluate(
 pub fn extend(
     n: usize,
     s: usize,
-    representatives: &[u8],
+    representatives: &[u16],
     powers: &[u16],
     logs: &[u16],
     values: &mut [u16],

@@ -32,13 +32,13 @@ fn write_part(text: &[u8], size: usize) {
 }
 
 fn accepted_line(r: Record) {
-    number(b"accepted ", r.n);
-    number(b" ", r.k);
-    number(b" ", r.s);
-    number(b" ", r.working);
-    number(b" ", r.d);
-    number(b" ", r.t);
-    number(b" ", r.terms);
+    number(b"accepted ", r.n as usize);
+    number(b" ", r.k as usize);
+    number(b" ", r.s as usize);
+    number(b" ", r.working as usize);
+    number(b" ", r.d as usize);
+    number(b" ", r.t as usize);
+    number(b" ", r.terms as usize);
     io::write_all(STDOUT_FILENO, b"\n");
 }
 

@@ -1,5 +1,7 @@
 -- `dunefork::dunefork_decode` meets its contract: the entry's answer as a code.
 use native.Mathlib.Omega.{arith}
+use Rattle.document.specs.Short.{short}
+use Rattle.document.proofs.Stated.{length-is}
 use Rattle.dunefork.proofs.Coded.{replied, coded-refused, fits, decode-few, counted-done}
 use borrow.Author.Needs.{needs}
 use Rattle.dunefork.proofs.dunefork_decode.Statement.{statement}
@@ -16,7 +18,7 @@ enum-known-reply : tie.Need-enum-known-reply
 enum-known-reply c = search needs
 
 cast-result : tie.Need-cast-result
-cast-result c = fits (omega (arith, decode-few (c .before .before .before .before .before .before .before .before .before .before .args .sheet .now) _ _ (omega (arith, c .before .before .before .before .before .before .before .before .before .shared-slice-known .given 2)) (replied (c .before .reply .given .1) (c .before .before .before .before .before .decode .ensures))))
+cast-result c = fits (omega (arith, decode-few (c .before .before .before .before .before .before .before .before .before .before .args .sheet .now) _ _ (omega (arith, c .before .before .before .before .before .before .before .before .before .shared-slice-known .given 2, length-is short (c .before .before .before .before .before .before .before .before .before .before .args .sheet .now))) (replied (c .before .reply .given .1) (c .before .before .before .before .before .decode .ensures))))
 
 enum-known-reply-2 : tie.Need-enum-known-reply-2
 enum-known-reply-2 c = search needs
@@ -28,7 +30,7 @@ same-length : tie.Need-same-length
 same-length c = c .before .before .before .before .before .decode .kept .1 .1 .0
 
 returns : tie.Need-returns
-returns c = let e = replied (c .before .reply .given .1) (c .before .before .before .before .before .decode .ensures) in counted-done (fits (decode-few (c .before .before .before .before .before .before .before .before .before .before .args .sheet .now) _ _ (omega (arith, c .before .before .before .before .before .before .before .before .before .shared-slice-known .given 2)) e)) e
+returns c = let e = replied (c .before .reply .given .1) (c .before .before .before .before .before .decode .ensures) in counted-done (fits (decode-few (c .before .before .before .before .before .before .before .before .before .before .args .sheet .now) _ _ (omega (arith, c .before .before .before .before .before .before .before .before .before .shared-slice-known .given 2, length-is short (c .before .before .before .before .before .before .before .before .before .before .args .sheet .now))) e)) e
 
 same-length-2 : tie.Need-same-length-2
 same-length-2 c = c .before .before .before .before .before .before .decode .kept .1 .1 .0

@@ -20,13 +20,12 @@ div-result : tie.Need-div-result
 div-result c = omega arith
 
 add-result-2 : tie.Need-add-result-2
-add-result-2 c = let q = quotient-le (c .less .result + (c .before .args .u - 1)) (c .before .args .u) (omega arith) in omega arith
+add-result-2 c = let q = quotient-le (c .less .result + (c .before .args .u - 1)) (c .before .args .u) (c .before .args .terms) (omega arith) in omega arith
 
 returns : tie.Need-returns
 returns c = (
   ap (λ (x : ℕ). (x + (c .before .args .u - 1)) / c .before .args .u + 1) (c .less .ensures),
-  quotient-le
-      (c .less .result + (c .before .args .u - 1)) (c .before .args .u) (omega arith),
+  quotient-le (c .less .result + (c .before .args .u - 1)) (c .before .args .u) (c .before .args .terms) (omega arith),
 )
 
 pub distance-spec : {M : Type 1} → statement M

@@ -6,6 +6,12 @@ use borrow.Author.Needs.{needs}
 use Rattle.certificate.proofs.range.wrong_steps.Statement.{statement}
 use Rattle.certificate.proofs.range.wrong_steps.Tie as tie
 
+cast-b : tie.Need-cast-b
+cast-b c = search needs
+
+cast-z : tie.Need-cast-z
+cast-z c = search needs
+
 returns : tie.Need-returns
 returns c = steps-b _ _ (omega arith)
 
@@ -29,4 +35,14 @@ returns-5 c = steps-z-coprime _ _ (omega arith) (omega arith) (omega arith) (sym
 
 pub wrong-steps-spec : {M : Type 1} → statement M
 wrong-steps-spec =
-    tie.close (tie.spec returns returns-2 sub-if3 returns-3 coprime-requires returns-4 returns-5)
+    tie.close
+    (tie.spec
+    cast-b
+    cast-z
+    returns
+    returns-2
+    sub-if3
+    returns-3
+    coprime-requires
+    returns-4
+    returns-5)

@@ -8,22 +8,22 @@ use Rattle.code.proofs.encode.encode_accepted.Statement.{statement}
 use Rattle.code.proofs.encode.encode_accepted.Tie as tie
 
 bytes-for-requires : tie.Need-bytes-for-requires
-bytes-for-requires c κs = search needs
+bytes-for-requires c κs = let p = c .before .before .before .pre in omega (arith, p .0 .k-le, p .1)
 
 returns : tie.Need-returns
-returns c = encode-message (c .before .before .before .before .before .pre) _ _ (λ e. c .if1 .taken (e ∙ sym (c .before .bytes-for .ensures)))
+returns c = encode-message (c .before .before .before .before .before .pre .0) _ _ (λ e. c .if1 .taken (e ∙ sym (c .before .bytes-for .ensures)))
 
 bytes-for-requires-2 : tie.Need-bytes-for-requires-2
-bytes-for-requires-2 c κs = search needs
+bytes-for-requires-2 c κs = let p = c .before .before .before .before .before .pre in omega (arith, p .1)
 
 returns-2 : tie.Need-returns-2
-returns-2 c = encode-out (c .before .before .before .before .before .before .before .pre) _ _ (c .before .before .if1 .left ∙ c .before .before .before .bytes-for .ensures) (λ e. c .if2 .taken (e ∙ sym (c .before .bytes-for2 .ensures)))
+returns-2 c = encode-out (c .before .before .before .before .before .before .before .pre .0) _ _ (c .before .before .if1 .left ∙ c .before .before .before .bytes-for .ensures) (λ e. c .if2 .taken (e ∙ sym (c .before .bytes-for2 .ensures)))
 
 spare-message-requires : tie.Need-spare-message-requires
-spare-message-requires c κs = search needs
+spare-message-requires c κs = let p = c .before .before .before .before .before .before .before .pre in (c .before .before .if1 .left ∙ c .before .before .before .bytes-for .ensures, p .0 .k-pos, omega (arith, p .0 .k-le, p .1))
 
 returns-3 : tie.Need-returns-3
-returns-3 c = encode-spare (c .before .before .before .before .before .before .before .before .before .pre) _ _ (c .before .before .before .before .if1 .left ∙ c .before .before .before .before .before .bytes-for .ensures) (c .before .before .if2 .left ∙ c .before .before .before .bytes-for2 .ensures) (sym (c .before .spare-message .ensures) ∙ c .if3 .taken)
+returns-3 c = encode-spare (c .before .before .before .before .before .before .before .before .before .pre .0) _ _ (c .before .before .before .before .if1 .left ∙ c .before .before .before .before .before .bytes-for .ensures) (c .before .before .if2 .left ∙ c .before .before .before .bytes-for2 .ensures) (sym (c .before .spare-message .ensures) ∙ c .if3 .taken)
 
 array-write-generator : tie.Need-array-write-generator
 array-write-generator c = search needs
@@ -38,13 +38,17 @@ slice-aggregate-write-codeword-3 : tie.Need-slice-aggregate-write-codeword-3
 slice-aggregate-write-codeword-3 c = search needs
 
 write-codeword-requires : tie.Need-write-codeword-requires
-write-codeword-requires c κs = let u = c .before .before .before .before .before .before .before .before .before .before .before .before .before .pre in (u, record { message-long = c .before .before .before .before .before .before .before .before .if1 .left ∙ c .before .before .before .before .before .before .before .before .before .bytes-for .ensures; out-long = c .before .before .before .before .before .before .if2 .left ∙ c .before .before .before .before .before .before .before .bytes-for2 .ensures }, fresh (omega (arith, u .n-is, u .head .most)))
+write-codeword-requires c κs = let p = c .before .before .before .before .before .before .before .before .before .before .before .before .before .pre in (
+  p .0,
+  record { message-long = c .before .before .before .before .before .before .before .before .if1 .left ∙ c .before .before .before .before .before .before .before .before .before .bytes-for .ensures; out-long = c .before .before .before .before .before .before .if2 .left ∙ c .before .before .before .before .before .before .before .bytes-for2 .ensures },
+  fresh 127 16 144 (p .1) (omega arith) (omega (arith, p .1)),
+)
 
 same-length : tie.Need-same-length
 same-length c = c .before .before .before .before .before .write-codeword .kept .1 .1 .1 .1 .1 .0
 
 returns-4 : tie.Need-returns-4
-returns-4 c = encode-done (c .before .before .before .before .before .before .before .before .before .before .before .before .before .before .before .before .before .before .before .pre) _ _ (c .before .before .before .before .before .before .before .before .before .before .before .before .before .before .if1 .left ∙ c .before .before .before .before .before .before .before .before .before .before .before .before .before .before .before .bytes-for .ensures) (c .before .before .before .before .before .before .before .before .before .before .before .before .if2 .left ∙ c .before .before .before .before .before .before .before .before .before .before .before .before .before .bytes-for2 .ensures) (sym (c .before .before .before .before .before .before .before .before .before .before .before .spare-message .ensures) ∙ c .before .before .before .before .before .before .before .before .before .before .if3 .left) (c .before .before .before .before .before .write-codeword .ensures)
+returns-4 c = encode-done (c .before .before .before .before .before .before .before .before .before .before .before .before .before .before .before .before .before .before .before .pre .0) _ _ (c .before .before .before .before .before .before .before .before .before .before .before .before .before .before .if1 .left ∙ c .before .before .before .before .before .before .before .before .before .before .before .before .before .before .before .bytes-for .ensures) (c .before .before .before .before .before .before .before .before .before .before .before .before .if2 .left ∙ c .before .before .before .before .before .before .before .before .before .before .before .before .before .bytes-for2 .ensures) (sym (c .before .before .before .before .before .before .before .before .before .before .before .spare-message .ensures) ∙ c .before .before .before .before .before .before .before .before .before .before .if3 .left) (c .before .before .before .before .before .write-codeword .ensures)
 
 pub encode-accepted-spec : {M : Type 1} → statement M
 encode-accepted-spec =

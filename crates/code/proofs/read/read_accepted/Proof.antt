@@ -8,22 +8,22 @@ use Rattle.code.proofs.read.read_accepted.Statement.{statement}
 use Rattle.code.proofs.read.read_accepted.Tie as tie
 
 bytes-for-requires : tie.Need-bytes-for-requires
-bytes-for-requires c κs = search needs
+bytes-for-requires c κs = let p = c .before .before .before .pre in omega (arith, p .1)
 
 returns : tie.Need-returns
-returns c = read-word (c .before .before .before .before .before .pre) _ _ (λ e. c .if1 .taken (e ∙ sym (c .before .bytes-for .ensures)))
+returns c = read-word (c .before .before .before .before .before .pre .0) _ _ (λ e. c .if1 .taken (e ∙ sym (c .before .bytes-for .ensures)))
 
 bytes-for-requires-2 : tie.Need-bytes-for-requires-2
-bytes-for-requires-2 c κs = search needs
+bytes-for-requires-2 c κs = let p = c .before .before .before .before .before .pre in omega (arith, p .0 .k-le, p .1)
 
 returns-2 : tie.Need-returns-2
-returns-2 c = read-out (c .before .before .before .before .before .before .before .pre) _ _ (c .before .before .if1 .left ∙ c .before .before .before .bytes-for .ensures) (λ e. c .if2 .taken (e ∙ sym (c .before .bytes-for2 .ensures)))
+returns-2 c = read-out (c .before .before .before .before .before .before .before .pre .0) _ _ (c .before .before .if1 .left ∙ c .before .before .before .bytes-for .ensures) (λ e. c .if2 .taken (e ∙ sym (c .before .bytes-for2 .ensures)))
 
 spare-word-requires : tie.Need-spare-word-requires
-spare-word-requires c κs = search needs
+spare-word-requires c κs = let p = c .before .before .before .before .before .before .before .pre in (c .before .before .if1 .left ∙ c .before .before .before .bytes-for .ensures, omega (arith, p .0 .k-pos, p .0 .k-le), omega (arith, p .1))
 
 returns-3 : tie.Need-returns-3
-returns-3 c = read-spare (c .before .before .before .before .before .before .before .before .before .pre) _ _ (c .before .before .before .before .if1 .left ∙ c .before .before .before .before .before .bytes-for .ensures) (c .before .before .if2 .left ∙ c .before .before .before .bytes-for2 .ensures) (sym (c .before .spare-word .ensures) ∙ c .if3 .taken)
+returns-3 c = read-spare (c .before .before .before .before .before .before .before .before .before .pre .0) _ _ (c .before .before .before .before .if1 .left ∙ c .before .before .before .before .before .bytes-for .ensures) (c .before .before .if2 .left ∙ c .before .before .before .bytes-for2 .ensures) (sym (c .before .spare-word .ensures) ∙ c .if3 .taken)
 
 array-write-generator : tie.Need-array-write-generator
 array-write-generator c = search needs
@@ -38,25 +38,31 @@ slice-aggregate-no-codeword-3 : tie.Need-slice-aggregate-no-codeword-3
 slice-aggregate-no-codeword-3 c = search needs
 
 no-codeword-requires : tie.Need-no-codeword-requires
-no-codeword-requires c κs = let u = c .before .before .before .before .before .before .before .before .before .before .before .before .pre in (u, c .before .before .before .before .before .before .before .if1 .left ∙ c .before .before .before .before .before .before .before .before .bytes-for .ensures, fresh (omega (arith, u .n-is, u .head .most)))
+no-codeword-requires c κs = let p = c .before .before .before .before .before .before .before .before .before .before .before .before .pre in (p .0 .coded, c .before .before .before .before .before .before .before .if1 .left ∙ c .before .before .before .before .before .before .before .before .bytes-for .ensures, fresh 127 16 144 (p .1) (omega arith) (omega (arith, p .1)))
 
 returns-4 : tie.Need-returns-4
-returns-4 c = read-none (c .before .before .before .before .before .before .before .before .before .before .before .before .before .before .before .before .before .pre) _ _ (c .before .before .before .before .before .before .before .before .before .before .before .before .if1 .left ∙ c .before .before .before .before .before .before .before .before .before .before .before .before .before .bytes-for .ensures) (c .before .before .before .before .before .before .before .before .before .before .if2 .left ∙ c .before .before .before .before .before .before .before .before .before .before .before .bytes-for2 .ensures) (sym (c .before .before .before .before .before .before .before .before .before .spare-word .ensures) ∙ c .before .before .before .before .before .before .before .before .if3 .left) (c .before .before .before .before .no-codeword .ensures) (c .if4 .taken)
+returns-4 c = read-none (c .before .before .before .before .before .before .before .before .before .before .before .before .before .before .before .before .before .pre .0) _ _ (c .before .before .before .before .before .before .before .before .before .before .before .before .if1 .left ∙ c .before .before .before .before .before .before .before .before .before .before .before .before .before .bytes-for .ensures) (c .before .before .before .before .before .before .before .before .before .before .if2 .left ∙ c .before .before .before .before .before .before .before .before .before .before .before .bytes-for2 .ensures) (sym (c .before .before .before .before .before .before .before .before .before .spare-word .ensures) ∙ c .before .before .before .before .before .before .before .before .if3 .left) (c .before .before .before .before .no-codeword .ensures) (c .if4 .taken)
 
 sub-write-message : tie.Need-sub-write-message
-sub-write-message c = search needs
+sub-write-message c = let p = c .before .before .before .before .before .before .before .before .before .before .before .before .before .before .before .before .before .pre in omega (arith, p .0 .k-le)
 
 slice-aggregate-write-message : tie.Need-slice-aggregate-write-message
 slice-aggregate-write-message c = search needs
 
 write-message-requires : tie.Need-write-message-requires
-write-message-requires c κs = let u = c .before .before .before .before .before .before .before .before .before .before .before .before .before .before .before .before .before .before .before .pre in record { word-long = split-long _ _ (u .k-le) (c .before .before .before .before .before .before .before .before .before .before .before .before .before .before .if1 .left ∙ c .before .before .before .before .before .before .before .before .before .before .before .before .before .before .before .bytes-for .ensures); out-long = c .before .before .before .before .before .before .before .before .before .before .before .before .if2 .left ∙ c .before .before .before .before .before .before .before .before .before .before .before .before .before .bytes-for2 .ensures; most = omega (arith, u .n-is, u .k-le, u .head .most); w-long = omega (arith, u .n-is, u .k-le, u .head .most, c .before .before .before .before .before .before .no-codeword .kept .1 .1 .1 .1 .1 .1 .1 .0); clear = c .before .before .before .before .before .before .no-codeword .ensures .clear (c .before .before .if4 .left) }
+write-message-requires c κs = let p = c .before .before .before .before .before .before .before .before .before .before .before .before .before .before .before .before .before .before .before .pre in record {
+  word-long = split-long (c .before .before .before .before .before .before .before .before .before .before .before .before .before .before .before .before .before .before .before .args .n) (c .before .before .before .before .before .before .before .before .before .before .before .before .before .before .before .before .before .before .before .args .k) (p .0 .k-le) (c .before .before .before .before .before .before .before .before .before .before .before .before .before .before .if1 .left ∙ c .before .before .before .before .before .before .before .before .before .before .before .before .before .before .before .bytes-for .ensures);
+  out-long = c .before .before .before .before .before .before .before .before .before .before .before .before .if2 .left ∙ c .before .before .before .before .before .before .before .before .before .before .before .before .before .bytes-for2 .ensures;
+  most = omega (arith, p .0 .k-le, p .1);
+  w-long = omega (arith, p .0 .k-le, p .1, c .before .before .before .before .before .before .no-codeword .kept .1 .1 .1 .1 .1 .1 .0);
+  clear = c .before .before .before .before .before .before .no-codeword .ensures .clear (c .before .before .if4 .left);
+}
 
 same-length : tie.Need-same-length
 same-length c = c .before .before .before .write-message .kept .1 .1 .1 .1 .0
 
 returns-5 : tie.Need-returns-5
-returns-5 c = read-done (c .before .before .before .before .before .before .before .before .before .before .before .before .before .before .before .before .before .before .before .before .before .before .before .pre) _ _ (c .before .before .before .before .before .before .before .before .before .before .before .before .before .before .before .before .before .before .if1 .left ∙ c .before .before .before .before .before .before .before .before .before .before .before .before .before .before .before .before .before .before .before .bytes-for .ensures) (c .before .before .before .before .before .before .before .before .before .before .before .before .before .before .before .before .if2 .left ∙ c .before .before .before .before .before .before .before .before .before .before .before .before .before .before .before .before .before .bytes-for2 .ensures) (sym (c .before .before .before .before .before .before .before .before .before .before .before .before .before .before .before .spare-word .ensures) ∙ c .before .before .before .before .before .before .before .before .before .before .before .before .before .before .if3 .left) (c .before .before .before .before .before .before .before .before .before .before .no-codeword .ensures) (c .before .before .before .before .before .before .if4 .left) (c .before .before .before .write-message .ensures)
+returns-5 c = read-done (c .before .before .before .before .before .before .before .before .before .before .before .before .before .before .before .before .before .before .before .before .before .before .before .pre .0) _ _ (c .before .before .before .before .before .before .before .before .before .before .before .before .before .before .before .before .before .before .if1 .left ∙ c .before .before .before .before .before .before .before .before .before .before .before .before .before .before .before .before .before .before .before .bytes-for .ensures) (c .before .before .before .before .before .before .before .before .before .before .before .before .before .before .before .before .if2 .left ∙ c .before .before .before .before .before .before .before .before .before .before .before .before .before .before .before .before .before .bytes-for2 .ensures) (sym (c .before .before .before .before .before .before .before .before .before .before .before .before .before .before .before .spare-word .ensures) ∙ c .before .before .before .before .before .before .before .before .before .before .before .before .before .before .if3 .left) (c .before .before .before .before .before .before .before .before .before .before .no-codeword .ensures) (c .before .before .before .before .before .before .if4 .left) (c .before .before .before .write-message .ensures)
 
 pub read-accepted-spec : {M : Type 1} → statement M
 read-accepted-spec =

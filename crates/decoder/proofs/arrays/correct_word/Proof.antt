@@ -2,13 +2,9 @@
 use Rattle.decoder.proofs.Cleared.{any-terms}
 use Rattle.decoder.proofs.arrays.correct_word.Statement.{statement}
 use Rattle.decoder.proofs.arrays.correct_word.Tie as tie
-use Rattle.decoder.proofs.arrays.correct_word.Reads as reads
-use Rattle.decoder.proofs.arrays.correct_word.Lts as lts
-use Rattle.decoder.proofs.arrays.with_large_tables.Reads as with-large-tables-reads
-use Rattle.decoder.proofs.arrays.with_small_tables.Reads as with-small-tables-reads
 
 with-small-tables-requires : tie.Need-with-small-tables-requires
-with-small-tables-requires c κs = let p = c .before .before .before .before .before .before .before .pre in (p .0, p .1, p .2, λ _. c .before .before .if1 .taken, c .before .if2 .taken)
+with-small-tables-requires c κs = let p = c .before .before .before .before .before .before .before .pre in (p .0, p .1, p .2, λ _. c .before .before .if1 .taken, c .before .if2 .taken, p .3, p .4)
 
 same-length : tie.Need-same-length
 same-length c = c .before .before .with-small-tables .kept .1 .1 .1 .1 .1 .0
@@ -17,7 +13,7 @@ returns : tie.Need-returns
 returns c = c .before .before .with-small-tables .ensures
 
 with-large-tables-requires : tie.Need-with-large-tables-requires
-with-large-tables-requires c κs = let p = c .before .before .before .before .before .before .before .pre in (p .0, p .1, p .2, λ _. c .before .before .if1 .taken)
+with-large-tables-requires c κs = let p = c .before .before .before .before .before .before .before .pre in (p .0, p .1, p .2, λ _. c .before .before .if1 .taken, p .3, p .4)
 
 same-length-2 : tie.Need-same-length-2
 same-length-2 c = c .before .before .with-large-tables .kept .1 .1 .1 .1 .1 .0
@@ -26,7 +22,7 @@ returns-2 : tie.Need-returns-2
 returns-2 c = c .before .before .with-large-tables .ensures
 
 with-small-tables-requires-2 : tie.Need-with-small-tables-requires-2
-with-small-tables-requires-2 c κs = let p = c .before .before .before .before .before .before .before .pre in (p .0, p .1, p .2, any-terms, c .before .if3 .taken)
+with-small-tables-requires-2 c κs = let p = c .before .before .before .before .before .before .before .pre in (p .0, p .1, p .2, any-terms, c .before .if3 .taken, p .3, p .4)
 
 same-length-3 : tie.Need-same-length-3
 same-length-3 c = c .before .before .with-small-tables2 .kept .1 .1 .1 .1 .1 .0
@@ -35,7 +31,7 @@ returns-3 : tie.Need-returns-3
 returns-3 c = c .before .before .with-small-tables2 .ensures
 
 with-large-tables-requires-2 : tie.Need-with-large-tables-requires-2
-with-large-tables-requires-2 c κs = let p = c .before .before .before .before .before .before .before .pre in (p .0, p .1, p .2, any-terms)
+with-large-tables-requires-2 c κs = let p = c .before .before .before .before .before .before .before .pre in (p .0, p .1, p .2, any-terms, p .3, p .4)
 
 same-length-4 : tie.Need-same-length-4
 same-length-4 c = c .before .before .with-large-tables2 .kept .1 .1 .1 .1 .1 .0

@@ -1,11 +1,9 @@
 -- `decoder::arrays::with_short_arrays` meets its contract: arrays of 64 hold up to 63 terms, and all of them are 0.
+use native.Mathlib.Omega.{arith}
 use mathlib.Core.Path.{refl}
 use Rattle.decoder.proofs.Cleared.{lodged, again}
 use Rattle.decoder.proofs.arrays.with_short_arrays.Statement.{statement}
 use Rattle.decoder.proofs.arrays.with_short_arrays.Tie as tie
-use Rattle.decoder.proofs.arrays.with_short_arrays.Reads as reads
-use Rattle.decoder.proofs.arrays.with_short_arrays.Lts as lts
-use Rattle.decoder.proofs.correct.correct.Reads as correct-reads
 
 slice-aggregate-correct : tie.Need-slice-aggregate-correct
 slice-aggregate-correct c = refl
@@ -38,7 +36,7 @@ slice-aggregate-correct-10 : tie.Need-slice-aggregate-correct-10
 slice-aggregate-correct-10 c = refl
 
 correct-requires : tie.Need-correct-requires
-correct-requires c κs = let p = c .before .before .before .before .before .before .before .before .before .before .before .before .before .before .before .before .pre in lodged 64 (p .0) (p .1) (p .2) (p .3) (p .4)
+correct-requires c κs = let p = c .before .before .before .before .before .before .before .before .before .before .before .before .before .before .before .before .pre in lodged 32 128 64 (p .0) (p .1) (p .2) (p .3) (p .4) (omega (arith, p .5)) (omega (arith, p .5))
 
 enum-known-m : tie.Need-enum-known-m
 enum-known-m c = c .match .keys1

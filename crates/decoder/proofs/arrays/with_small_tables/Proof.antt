@@ -3,11 +3,6 @@ use mathlib.Core.Path.{refl, sym}
 use Rattle.decoder.proofs.Cleared.{degree-of, small-tables}
 use Rattle.decoder.proofs.arrays.with_small_tables.Statement.{statement}
 use Rattle.decoder.proofs.arrays.with_small_tables.Tie as tie
-use Rattle.decoder.proofs.arrays.with_small_tables.Reads as reads
-use Rattle.decoder.proofs.arrays.with_small_tables.Lts as lts
-use Rattle.decoder.proofs.arrays.with_long_arrays.Reads as with-long-arrays-reads
-use Rattle.decoder.proofs.arrays.with_short_arrays.Reads as with-short-arrays-reads
-use Rattle.field.proofs.tables.fill.Reads as fill-reads
 
 slice-aggregate-fill : tie.Need-slice-aggregate-fill
 slice-aggregate-fill c = refl
@@ -25,7 +20,7 @@ slice-aggregate-with-long-arrays-2 : tie.Need-slice-aggregate-with-long-arrays-2
 slice-aggregate-with-long-arrays-2 c = sym (c .before .before .before .before .before .fill .kept .1 .1 .0)
 
 with-long-arrays-requires : tie.Need-with-long-arrays-requires
-with-long-arrays-requires c κs = let p = c .before .before .before .before .before .before .before .before .before .before .before .before .pre in (p .0, p .1, p .2, c .before .before .before .before .before .before .fill .ensures .tables)
+with-long-arrays-requires c κs = let p = c .before .before .before .before .before .before .before .before .before .before .before .before .pre in (p .0, p .1, p .2, c .before .before .before .before .before .before .fill .ensures .tables, p .5, p .6)
 
 same-length : tie.Need-same-length
 same-length c = c .before .before .with-long-arrays .kept .1 .1 .1 .1 .1 .1 .1 .0
@@ -40,7 +35,7 @@ slice-aggregate-with-short-arrays-2 : tie.Need-slice-aggregate-with-short-arrays
 slice-aggregate-with-short-arrays-2 c = sym (c .before .before .before .before .before .fill .kept .1 .1 .0)
 
 with-short-arrays-requires : tie.Need-with-short-arrays-requires
-with-short-arrays-requires c κs = let p = c .before .before .before .before .before .before .before .before .before .before .before .before .pre in (p .0, p .1, p .2, c .before .before .before .before .before .before .fill .ensures .tables, p .3 (c .before .before .before .if1 .left))
+with-short-arrays-requires c κs = let p = c .before .before .before .before .before .before .before .before .before .before .before .before .pre in (p .0, p .1, p .2, c .before .before .before .before .before .before .fill .ensures .tables, p .3 (c .before .before .before .if1 .left), p .6)
 
 same-length-2 : tie.Need-same-length-2
 same-length-2 c = c .before .before .with-short-arrays .kept .1 .1 .1 .1 .1 .1 .1 .0

@@ -18,6 +18,9 @@ abbrev μ-loop : tie.MeasureT-loop
 loop-holds : tie.Need-loop-holds Inv-loop μ-loop
 loop-holds c = (c .before .before .pre, refl, omega arith, repaired-start)
 
+mul-i : tie.Need-mul-i Inv-loop μ-loop
+mul-i c = omega (arith, c .before .loop .inv .0 .listed)
+
 shared-slice-read-i : tie.Need-shared-slice-read-i Inv-loop μ-loop
 shared-slice-read-i c = omega (arith, c .before .before .loop .inv .0 .listed)
 
@@ -55,6 +58,7 @@ flip-spec =
     Inv-loop
     μ-loop
     loop-holds
+    mul-i
     shared-slice-read-i
     cast-i
     word-place-requires

@@ -24,6 +24,9 @@ loop-holds c = let r = c .before .before .before .before .before .pre in (r .0, 
 sub-i : tie.Need-sub-i Inv-loop μ-loop
 sub-i c = omega arith
 
+mul-r : tie.Need-mul-r Inv-loop μ-loop
+mul-r c = omega (arith, c .before .loop .inv .9)
+
 shared-slice-read-r : tie.Need-shared-slice-read-r Inv-loop μ-loop
 shared-slice-read-r c = let v = c .before .before .loop .inv in omega (arith, v .9)
 
@@ -63,6 +66,7 @@ generator-spec =
     alpha-requires
     loop-holds
     sub-i
+    mul-r
     shared-slice-read-r
     cast-r
     power-requires

@@ -1,7 +1,7 @@
 -- `listing::write::put_members` meets its contract: the marked places below i are written.
 use native.Mathlib.Omega.{arith}
 use mathlib.Core.Path.{_≡_, refl}
-use Prim.Native.Nat.{_+_, _-_, _*_, _≤_}
+use Prim.Native.Nat.{_+_, _-_, _*_, _≤_, _<_}
 use lib.ListN.{length}
 use Rattle.listing.specs.Wrote.{Wrote}
 use Rattle.listing.specs.Text.{rows, memberIn}
@@ -11,7 +11,7 @@ use Rattle.listing.proofs.write.put_members.Tie as tie
 
 abbrev Inv-loop : tie.InvT-loop
 Inv-loop out₀ at n zeros end₀ i₀ out end i =
-    (at + 5 * n ≤ length out₀) × (n ≤ 127) × (n ≤ length zeros) × (length out ≡ length out₀) × (i ≤ n) × (end ≤ at + 5 * i)
+    (at + 5 * n ≤ length out₀) × (n < 10000) × (n ≤ length zeros) × (length out ≡ length out₀) × (i ≤ n) × (end ≤ at + 5 * i)
     × Wrote (rows (memberIn zeros) i) at out₀ out end
 
 abbrev μ-loop : tie.MeasureT-loop

@@ -7,12 +7,6 @@ use Rattle.locator.proofs.Searching.{length-le, multiple-lt, multiple-f
 use borrow.Author.Needs.{needs}
 use Rattle.locator.proofs.locate.locate.Statement.{statement}
 use Rattle.locator.proofs.locate.locate.Tie as tie
-use Rattle.locator.proofs.locate.locate.Reads as reads
-use Rattle.locator.proofs.locate.locate.Lts as lts
-use Rattle.field.proofs.product.order.Reads as order-reads
-use Rattle.locator.proofs.search.search.Reads as search-reads
-use Rattle.locator.proofs.search.search_fours.Reads as search-fours-reads
-use Rattle.locator.proofs.terms.list_terms.Reads as list-terms-reads
 
 sub-back : tie.Need-sub-back
 sub-back c = search needs
@@ -33,7 +27,7 @@ shared-slice-read-search-fours : tie.Need-shared-slice-read-search-fours
 shared-slice-read-search-fours c = search needs
 
 search-fours-requires : tie.Need-search-fours-requires
-search-fours-requires c κs = let p = c .before .before .before .before .before .before .before .before .before .before .before .before .before .before .before .before .before .before .before .before .before .before .before .before .before .before .before .pre in (powered-of (p .tables), c .before .before .before .before .before .before .before .before .before .before .before .before .before .list-terms .ensures .listed, length-le (p .odd) (p .s-is) (p .tables), p .list-long, p .few)
+search-fours-requires c κs = let p = c .before .before .before .before .before .before .before .before .before .before .before .before .before .before .before .before .before .before .before .before .before .before .before .before .before .before .before .pre in (powered-of (p .tables), c .before .before .before .before .before .before .before .before .before .before .before .before .before .list-terms .ensures .listed, length-le (p .odd) (p .s-is) (p .tables), p .list-long, omega (arith, p .odd .most))
 
 same-length : tie.Need-same-length
 same-length c = c .before .before .before .before .before .before .before .before .before .before .before .before .before .before .before .before .list-terms .kept .1 .1 .1 .1 .1 .1 .1 .0
@@ -58,7 +52,7 @@ shared-slice-read-search c = search needs
 
 search-requires : tie.Need-search-requires
 search-requires c κs = let p = c .before .before .before .before .before .before .before .before .before .before .before .before .before .before .before .before .before .before .before .before .before .before .before .before .before .before .before .before .before .pre in let v = c .before .before .before .before .before .before .before .before .before .before .before .before .before .before .before .list-terms .ensures in
-    (record { powered = powered-of (p .tables); listed = v .listed; laned = v .laned }, length-le (p .odd) (p .s-is) (p .tables), p .list-long, p .few)
+    (record { powered = powered-of (p .tables); listed = v .listed; laned = v .laned }, length-le (p .odd) (p .s-is) (p .tables), p .list-long, omega (arith, p .odd .most))
 
 same-length-6 : tie.Need-same-length-6
 same-length-6 c = c .before .before .before .before .before .before .before .before .before .before .before .before .before .before .before .before .before .before .list-terms .kept .1 .1 .1 .1 .1 .1 .1 .0

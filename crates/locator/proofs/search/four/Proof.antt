@@ -8,7 +8,7 @@ use Rattle.locator.proofs.search.four.Tie as tie
 
 abbrev Inv-loop : tie.InvT-loop
 Inv-loop constant exponents steps count i s powers first₀ second₀ third₀ fourth₀ m₀ first second third fourth m =
-    Neighbours s constant count i exponents steps powers m first second third fourth
+    Neighbours s count i exponents steps powers m first second third fourth
 
 abbrev μ-loop : tie.MeasureT-loop
 μ-loop constant exponents steps count i s powers first₀ second₀ third₀ fourth₀ m₀ first second third fourth m = count - m
@@ -91,7 +91,7 @@ loop-again c =
     neighbours-more (t .loop-test .taken) (c .before .before .before .before .index .ensures) (t .before .loop .inv)
 
 returns : tie.Need-returns Inv-loop μ-loop
-returns c = neighbours-end (c .loop-test .left) (c .before .loop .inv)
+returns c = neighbours-end _ (c .loop-test .left) (c .before .loop .inv)
 
 pub four-spec : {M : Type 1} → statement M
 four-spec =

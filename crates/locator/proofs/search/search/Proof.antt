@@ -9,7 +9,7 @@ use Rattle.locator.proofs.search.search.Statement.{statement}
 use Rattle.locator.proofs.search.search.Tie as tie
 
 abbrev Inv-loop : tie.InvT-loop
-Inv-loop n t first exponents steps low high count u s powers places₀ c₀ i₀ places c i = Searchable s u count exponents steps low high powers × (n ≤ 2 ^ s - 1) × (n ≤ 256) × (length places ≡ length places₀) × Finding n (vanishes s first count exponents steps low high) i c places × (c ≤ t) × (i ≤ n)
+Inv-loop n t first exponents steps low high count u s powers places₀ c₀ i₀ places c i = Searchable s u count exponents steps low high powers × (n ≤ 2 ^ s - 1) × (n ≤ 65536) × (length places ≡ length places₀) × Finding n (vanishes s first count exponents steps low high) i c places × (c ≤ t) × (i ≤ n)
 
 abbrev μ-loop : tie.MeasureT-loop
 μ-loop n t first exponents steps low high count u s powers places₀ c₀ i₀ places c i = n - i

@@ -9,10 +9,6 @@ use Rattle.syndrome.proofs.Setting.{by-lt}
 use Rattle.syndrome.proofs.Comparing.{valuable, value-of-places, Comparing, comparing-start, comparing-more, comparing-end, comparing-wrong}
 use Rattle.syndrome.proofs.agreement.agrees.Statement.{statement}
 use Rattle.syndrome.proofs.agreement.agrees.Tie as tie
-use Rattle.syndrome.proofs.agreement.agrees.Reads as reads
-use Rattle.syndrome.proofs.agreement.agrees.Lts as lts
-use Rattle.syndrome.proofs.agreement.value.Reads as value-reads
-use Rattle.field.proofs.product.order.Reads as order-reads
 
 abbrev Inv-loop : tie.InvT-loop
 Inv-loop places m n s representatives values powers q count k₀ k = Comparable n s m places representatives values powers × (q ≡ (2 ^ s - 1) / n) × (count ≡ length representatives) × (k ≤ count) × Comparing n s k m places representatives values
@@ -28,6 +24,9 @@ div-q c = omega (arith, c .before .before .before .before .before .pre .setting 
 
 loop-holds : tie.Need-loop-holds Inv-loop μ-loop
 loop-holds c = (c .before .before .before .before .before .pre, ap (λ (x : ℕ). x / c .before .before .before .before .before .args .n) (c .order .ensures), refl, omega arith, comparing-start)
+
+mul-r : tie.Need-mul-r Inv-loop μ-loop
+mul-r c = omega (arith, c .before .loop .inv .2)
 
 shared-slice-read-r : tie.Need-shared-slice-read-r Inv-loop μ-loop
 shared-slice-read-r c = omega (arith, c .before .before .loop .inv .2)
@@ -77,6 +76,7 @@ agrees-spec =
     order-requires
     div-q
     loop-holds
+    mul-r
     shared-slice-read-r
     cast-r
     add-k

@@ -5,9 +5,6 @@ use Rattle.syndrome.specs.Sums.{Valuable}
 use Rattle.syndrome.proofs.ValueSums.{Valuing, valuing-start, valuing-more, valuing-end}
 use Rattle.syndrome.proofs.agreement.value.Statement.{statement}
 use Rattle.syndrome.proofs.agreement.value.Tie as tie
-use Rattle.syndrome.proofs.agreement.value.Reads as reads
-use Rattle.syndrome.proofs.agreement.value.Lts as lts
-use Rattle.field.proofs.exponent.term.Reads as term-reads
 
 abbrev Inv-loop : tie.InvT-loop
 Inv-loop places c s by powers acc₀ k₀ acc k = Valuable c s by places powers × (k ≤ c) × Valuing s by k acc places
@@ -17,6 +14,9 @@ abbrev μ-loop : tie.MeasureT-loop
 
 loop-holds : tie.Need-loop-holds Inv-loop μ-loop
 loop-holds c = (c .before .before .pre, omega arith, valuing-start)
+
+mul-term : tie.Need-mul-term Inv-loop μ-loop
+mul-term c = omega (arith, c .before .loop .inv .0 .long)
 
 shared-slice-read-term : tie.Need-shared-slice-read-term Inv-loop μ-loop
 shared-slice-read-term c = let v = c .before .before .loop .inv in omega (arith, v .0 .long)
@@ -46,6 +46,7 @@ value-spec =
     Inv-loop
     μ-loop
     loop-holds
+    mul-term
     shared-slice-read-term
     cast-term
     term-requires

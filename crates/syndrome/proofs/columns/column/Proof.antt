@@ -1,89 +1,86 @@
 -- `syndrome::columns::column` meets its contract: four places, each 0 or 1, 16 places apart.
 use native.Mathlib.Omega.{arith}
-use Rattle.syndrome.proofs.Columning.{column-is}
-use Prim.Native.Nat.{_+_, _*_}
+use Rattle.syndrome.proofs.Columning.{place-in, column-of}
 use borrow.Author.Needs.{needs}
 use Rattle.syndrome.proofs.columns.column.Statement.{statement}
 use Rattle.syndrome.proofs.columns.column.Tie as tie
-use Rattle.syndrome.proofs.columns.column.Reads as reads
-use Rattle.syndrome.proofs.columns.column.Lts as lts
 
-shared-slice-read-first : tie.Need-shared-slice-read-first
-shared-slice-read-first c = search needs
+word-place-requires : tie.Need-word-place-requires
+word-place-requires c κs = place-in (c .before .args .word .now) (c .before .pre .0) (c .before .pre .1) (omega (arith, c .before .pre .1))
 
 cast-first : tie.Need-cast-first
-cast-first c = omega (arith, c .before .pre .0 .bits (c .before .args .i))
+cast-first c = search needs
 
-add-second : tie.Need-add-second
-add-second c = search needs
+add-word-place : tie.Need-add-word-place
+add-word-place c = search needs
 
-shared-slice-read-second : tie.Need-shared-slice-read-second
-shared-slice-read-second c = search needs
+word-place-requires-2 : tie.Need-word-place-requires-2
+word-place-requires-2 c κs = place-in (c .before .before .args .word .now) (c .before .before .pre .0) (c .before .before .pre .1) (omega (arith, c .before .before .pre .1))
 
 cast-second : tie.Need-cast-second
-cast-second c = omega (arith, c .before .before .pre .0 .bits (c .before .before .args .width + c .before .before .args .i))
+cast-second c = search needs
 
-mul-third : tie.Need-mul-third
-mul-third c = search needs
+mul-word-place : tie.Need-mul-word-place
+mul-word-place c = search needs
 
-add-third : tie.Need-add-third
-add-third c = search needs
+add-word-place-2 : tie.Need-add-word-place-2
+add-word-place-2 c = search needs
 
-shared-slice-read-third : tie.Need-shared-slice-read-third
-shared-slice-read-third c = search needs
+word-place-requires-3 : tie.Need-word-place-requires-3
+word-place-requires-3 c κs = place-in (c .before .before .before .args .word .now) (c .before .before .before .pre .0) (c .before .before .before .pre .1) (omega (arith, c .before .before .before .pre .1))
 
 cast-third : tie.Need-cast-third
-cast-third c = omega (arith, c .before .before .before .pre .0 .bits (2 * c .before .before .before .args .width + c .before .before .before .args .i))
+cast-third c = search needs
 
-mul-fourth : tie.Need-mul-fourth
-mul-fourth c = search needs
+mul-word-place-2 : tie.Need-mul-word-place-2
+mul-word-place-2 c = search needs
 
-add-fourth : tie.Need-add-fourth
-add-fourth c = search needs
+add-word-place-3 : tie.Need-add-word-place-3
+add-word-place-3 c = search needs
 
-shared-slice-read-fourth : tie.Need-shared-slice-read-fourth
-shared-slice-read-fourth c = search needs
+word-place-requires-4 : tie.Need-word-place-requires-4
+word-place-requires-4 c κs = place-in (c .before .before .before .before .args .word .now) (c .before .before .before .before .pre .0) (c .before .before .before .before .pre .1) (omega (arith, c .before .before .before .before .pre .1))
 
 cast-fourth : tie.Need-cast-fourth
-cast-fourth c = omega (arith, c .before .before .before .before .pre .0 .bits (3 * c .before .before .before .before .args .width + c .before .before .before .before .args .i))
+cast-fourth c = search needs
 
 mul-result : tie.Need-mul-result
-mul-result c = let p = c .before .before .before .before in let width = p .pre .0 .bits in omega (arith, width (p .args .i), width (p .args .width + p .args .i), width (2 * p .args .width + p .args .i), width (3 * p .args .width + p .args .i))
+mul-result c = search needs
 
 add-result : tie.Need-add-result
-add-result c = let p = c .before .before .before .before in let width = p .pre .0 .bits in omega (arith, width (p .args .i), width (p .args .width + p .args .i), width (2 * p .args .width + p .args .i), width (3 * p .args .width + p .args .i))
+add-result c = search needs
 
 mul-result-2 : tie.Need-mul-result-2
-mul-result-2 c = let p = c .before .before .before .before in let width = p .pre .0 .bits in omega (arith, width (p .args .i), width (p .args .width + p .args .i), width (2 * p .args .width + p .args .i), width (3 * p .args .width + p .args .i))
+mul-result-2 c = search needs
 
 add-result-2 : tie.Need-add-result-2
-add-result-2 c = let p = c .before .before .before .before in let width = p .pre .0 .bits in omega (arith, width (p .args .i), width (p .args .width + p .args .i), width (2 * p .args .width + p .args .i), width (3 * p .args .width + p .args .i))
+add-result-2 c = search needs
 
 mul-result-3 : tie.Need-mul-result-3
-mul-result-3 c = let p = c .before .before .before .before in let width = p .pre .0 .bits in omega (arith, width (p .args .i), width (p .args .width + p .args .i), width (2 * p .args .width + p .args .i), width (3 * p .args .width + p .args .i))
+mul-result-3 c = search needs
 
 add-result-3 : tie.Need-add-result-3
-add-result-3 c = let p = c .before .before .before .before in let width = p .pre .0 .bits in omega (arith, width (p .args .i), width (p .args .width + p .args .i), width (2 * p .args .width + p .args .i), width (3 * p .args .width + p .args .i))
+add-result-3 c = search needs
 
 returns : tie.Need-returns
-returns c = column-is (c .before .before .before .before .args .width) (c .before .before .before .before .args .i) _
+returns c = column-of (c .before .before .before .before .before .args .word .now) (c .before .before .before .before .before .pre .0) (c .before .before .before .before .before .pre .1) (c .before .before .before .word-place .ensures) (c .before .before .word-place2 .ensures) (c .before .word-place3 .ensures) (c .word-place4 .ensures)
 
 pub column-spec : {M : Type 1} → statement M
 column-spec =
     tie.close
     (tie.spec
-    shared-slice-read-first
+    word-place-requires
     cast-first
-    add-second
-    shared-slice-read-second
+    add-word-place
+    word-place-requires-2
     cast-second
-    mul-third
-    add-third
-    shared-slice-read-third
+    mul-word-place
+    add-word-place-2
+    word-place-requires-3
     cast-third
-    mul-fourth
-    add-fourth
-    shared-slice-read-fourth
+    mul-word-place-2
+    add-word-place-3
+    word-place-requires-4
     cast-fourth
     mul-result
     add-result

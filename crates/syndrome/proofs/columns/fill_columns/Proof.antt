@@ -3,19 +3,17 @@ use native.Mathlib.Omega.{arith}
 use mathlib.Core.Path.{_≡_, refl}
 use Prim.Native.Nat.{_-_, _≤_}
 use lib.ListN.{length, length-set}
+use Rattle.codeword.specs.Place.{placesOf}
 use Rattle.syndrome.specs.Columns.{Columnable}
 use Rattle.syndrome.proofs.Columning.{Columning, columning-start, columning-more, columning-end}
 use Rattle.syndrome.proofs.columns.fill_columns.Statement.{statement}
 use Rattle.syndrome.proofs.columns.fill_columns.Tie as tie
-use Rattle.syndrome.proofs.columns.fill_columns.Reads as reads
-use Rattle.syndrome.proofs.columns.fill_columns.Lts as lts
-use Rattle.syndrome.proofs.columns.column.Reads as column-reads
 
 abbrev Inv-loop : tie.InvT-loop
-Inv-loop bits width columns₀ i₀ columns i = Columnable width bits × (width ≤ length columns₀) × (length columns ≡ length columns₀) × (i ≤ width) × Columning width i bits columns
+Inv-loop word width columns₀ i₀ columns i = Columnable width (placesOf word) × (width ≤ length columns₀) × (length columns ≡ length columns₀) × (i ≤ width) × Columning width i (placesOf word) columns
 
 abbrev μ-loop : tie.MeasureT-loop
-μ-loop bits width columns₀ i₀ columns i = width - i
+μ-loop word width columns₀ i₀ columns i = width - i
 
 loop-holds : tie.Need-loop-holds Inv-loop μ-loop
 loop-holds c = (c .before .before .pre .0, c .before .before .pre .1, refl, omega arith, columning-start)

@@ -3,15 +3,16 @@ use borrow.Author.Needs.{needs}
 use native.Mathlib.Omega.{arith}
 use mathlib.Core.Path.{refl}
 use Prim.Native.Nat.{_-_}
+use Rattle.codeword.specs.Place.{placesOf}
 use Rattle.syndrome.proofs.Computing.{columnable, Values, values-start, values-summable, values-by, values-in, values-more, values-end}
 use Rattle.syndrome.proofs.values.evaluate.Statement.{statement}
 use Rattle.syndrome.proofs.values.evaluate.Tie as tie
 
 abbrev Inv-loop : tie.InvT-loop
-Inv-loop bits n s representatives powers logs columns values₀ width q count clean₀ k₀ values clean k = Values n s width q count bits representatives powers logs columns values₀ values clean k
+Inv-loop word n s representatives powers logs columns values₀ width q count clean₀ k₀ values clean k = Values n s width q count (placesOf word) representatives powers logs columns values₀ values clean k
 
 abbrev μ-loop : tie.MeasureT-loop
-μ-loop bits n s representatives powers logs columns values₀ width q count clean₀ k₀ values clean k = count - k
+μ-loop word n s representatives powers logs columns values₀ width q count clean₀ k₀ values clean k = count - k
 
 add-width : tie.Need-add-width Inv-loop μ-loop
 add-width c = omega (arith, c .before .before .before .before .before .before .pre .setting .odd .most)
@@ -30,6 +31,9 @@ div-q c = omega (arith, c .before .before .before .before .before .before .befor
 
 loop-holds : tie.Need-loop-holds Inv-loop μ-loop
 loop-holds c = values-start (c .before .before .before .before .before .before .before .before .before .before .before .pre) (c .before .before .before .fill-columns .kept .1 .1 .0) (c .before .before .before .fill-columns .ensures) (c .order .ensures)
+
+mul-r : tie.Need-mul-r Inv-loop μ-loop
+mul-r c = omega (arith, c .before .loop .inv .count-is)
 
 shared-slice-read-r : tie.Need-shared-slice-read-r Inv-loop μ-loop
 shared-slice-read-r c = let v = c .before .before .loop .inv in omega (arith, v .count-is)
@@ -85,6 +89,7 @@ evaluate-spec =
     order-requires
     div-q
     loop-holds
+    mul-r
     shared-slice-read-r
     cast-r
     add-k

@@ -7,9 +7,6 @@ use Rattle.syndrome.specs.Value.{Extendable}
 use Rattle.syndrome.proofs.Extending.{Extending, extending-start, extending-more, extending-end, conjugable}
 use Rattle.syndrome.proofs.values.extend.Statement.{statement}
 use Rattle.syndrome.proofs.values.extend.Tie as tie
-use Rattle.syndrome.proofs.values.extend.Reads as reads
-use Rattle.syndrome.proofs.values.extend.Lts as lts
-use Rattle.syndrome.proofs.values.conjugates.Reads as conjugates-reads
 
 abbrev Inv-loop : tie.InvT-loop
 Inv-loop n s representatives powers logs values₀ count k₀ values k = Extendable n s representatives powers logs values₀ × (count ≡ length representatives) × (k ≤ count) × (length values ≡ length values₀) × Extending n s k representatives values₀ values
@@ -19,6 +16,9 @@ abbrev μ-loop : tie.MeasureT-loop
 
 loop-holds : tie.Need-loop-holds Inv-loop μ-loop
 loop-holds c = (c .before .before .before .before .pre, refl, omega arith, refl, extending-start)
+
+mul-r : tie.Need-mul-r Inv-loop μ-loop
+mul-r c = omega (arith, c .before .loop .inv .1)
 
 shared-slice-read-r : tie.Need-shared-slice-read-r Inv-loop μ-loop
 shared-slice-read-r c = let v = c .before .before .loop .inv in omega (arith, v .1)
@@ -57,6 +57,7 @@ extend-spec =
     Inv-loop
     μ-loop
     loop-holds
+    mul-r
     shared-slice-read-r
     cast-r
     add-k

@@ -3,9 +3,10 @@
 --   and-turn                   the step behind both algorithms of Euclid
 --   every-not                  not all numbers below n pass where one does not
 --   SameDivisors a b x y       a and b have the divisors in common that x and y have
---   divisors-start, divisors-turn, divisors-end      before, in and after the loop
+--   divisors-start, divisors-turn                before and in the loop
+--   divisors-one, divisors-end                   after it, where y is 1 and where it is 0
 use mathlib.Core.Path.{_≡_, refl, sym, ap, ap₂, _∙_}
-use mathlib.Core.Bool.{Bool, true, false, not, _&&_}
+use mathlib.Core.Bool.{Bool, true, false, not, _&&_, and-comm}
 use Prim.Native.Nat.{ℕ, _+_, _-_, _%_, _≤_, _<_}
 use native.Mathlib.Nat.{mod-eq-of-lt, mod-mod-of-dvd, dvd-of-mod-eq-zero, zero-mod, mod-self}
 use native.Mathlib.Decide.{decLt, ℕ-discrete}
@@ -36,8 +37,8 @@ both d a b = eqb (a % d) 0 && eqb (b % d) 0
 pub record SameDivisors (a b x y : ℕ) : Type 0 where
   pub same : (d : ℕ) → 2 ≤ d → both d a b ≡ both d x y
 
-pub divisors-start : (a b : ℕ) → SameDivisors a b a b
-divisors-start a b = record { same = λ d h. refl }
+pub divisors-start : (a b : ℕ) → SameDivisors a b b a
+divisors-start a b = record { same = λ d h. and-comm (eqb (a % d) 0) (eqb (b % d) 0) }
 
 pub divisors-turn : {a b x y r : ℕ} → r ≡ x % y → SameDivisors a b x y → SameDivisors a b y r
 divisors-turn {a} {b} {x} {y} {r} e v = record {
@@ -84,17 +85,21 @@ module _ (a b : ℕ) where
   unfolding coprime test
   none h = every-of test (a + b + 1) (λ k l. ap not (h (k + 2) (omega arith)))
 
+not-of-one : {x : ℕ} (d : ℕ) → 2 ≤ d → x ≡ 1 → eqb (x % d) 0 ≡ false
+not-of-one {x} d h q = let e : x % d ≡ x = mod-eq-of-lt (omega arith) in ne-eqb (x % d) 0 (λ z. omega arith)
+
+pub divisors-one : {a b x y : ℕ} → y ≡ 1 → SameDivisors a b x y → true ≡ coprime a b
+divisors-one {a} {b} {x} {y} e v =
+    sym (none a b (λ d h. v .same d h ∙ and-comm (eqb (x % d) 0) (eqb (y % d) 0) ∙ ap (λ t. t && eqb (x % d) 0) (not-of-one d h e)))
+
 pub divisors-end : {a b x y : ℕ} → y ≡ 0 → SameDivisors a b x y → eqb x 1 ≡ coprime a b
 divisors-end {a} {b} {x} {y} e v = go (ℕ-discrete x 1) (ℕ-discrete x 0)
   where
     by-y : (d : ℕ) → y % d ≡ 0
     by-y d = ap (λ (z : ℕ). z % d) e ∙ zero-mod d
 
-    by-one : (d : ℕ) → 2 ≤ d → x ≡ 1 → eqb (x % d) 0 ≡ false
-    by-one d h q = let e : x % d ≡ x = mod-eq-of-lt (omega arith) in ne-eqb (x % d) 0 (λ z. omega arith)
-
     go : Dec (x ≡ 1) → Dec (x ≡ 0) → eqb x 1 ≡ coprime a b
-    go (yes q) c = eq-eqb x 1 q ∙ sym (none a b (λ d h. v .same d h ∙ ap (λ t. t && eqb (y % d) 0) (by-one d h q)))
+    go (yes q) c = eq-eqb x 1 q ∙ sym (none a b (λ d h. v .same d h ∙ ap (λ t. t && eqb (y % d) 0) (not-of-one d h q)))
     go (no q) (yes z) =
         ne-eqb x 1 q
         ∙ sym

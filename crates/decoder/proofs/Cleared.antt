@@ -3,7 +3,7 @@
 --   cleared      an array of 0 has no coefficients
 --   lodged       a word of a code of n places and fewer than k terms, in arrays of a columns, m values and k coefficients
 --   degree-of    s is a degree of the table
---   small-tables, large-tables      arrays for the tables of a degree up to 8, and up to 12
+--   cleared-tables      arrays for the tables of a degree up to m
 --   any-terms    where the long arrays are chosen, no more is asked of L
 --   again        an answer made anew says what it said
 use mathlib.Core.Path.{_≡_, refl, sym, subst}
@@ -66,11 +66,10 @@ lodged a m k p h l y few ha hm = record { given = p; tables = y; space = space l
 pub degree-of : {n s t : ℕ} {c : CodeCertificate} {reps : List ℕ} → Given n s t c reps → Degree s
 degree-of p = subst Degree (sym (p .s-is)) (degree (p .length-of))
 
-pub small-tables : {s : ℕ} → Degree s → s ≤ 8 → Tables.Fillable s (replicate 1280 0) (replicate 256 0)
-small-tables {s} d h = let b : 2 ^ s ≤ 2 ^ 8 = pow-mono h in record { degree = d; e-long = omega arith; g-long = omega arith }
-
-pub large-tables : {s : ℕ} → Degree s → Tables.Fillable s (replicate 20480 0) (replicate 4096 0)
-large-tables {s} d = let b : 2 ^ s ≤ 2 ^ 12 = pow-mono (d .hi) in record { degree = d; e-long = omega arith; g-long = omega arith }
+pub cleared-tables : {s : ℕ} (m : ℕ) → Degree s → s ≤ m → Tables.Fillable s (replicate (5 * 2 ^ m) 0) (replicate (2 ^ m) 0)
+cleared-tables {s} m d h =
+    let b : 2 ^ s ≤ 2 ^ m = pow-mono h in
+    record { degree = d; e-long = simp length-replicate (omega (arith, b)); g-long = simp length-replicate b }
 
 pub any-terms : {L : ℕ} → true ≡ false → L < 64
 any-terms e = absurd (true-ne-false refl e)

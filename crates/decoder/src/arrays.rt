@@ -1,5 +1,5 @@
-// The arrays that correcting a word works in, by the code's size: tables for s up to 8 or up to 12, and polynomials of 64 or of
-// 1,024 coefficients. Clearing large arrays costs more than correcting a short code's word.
+// The arrays that correcting a word works in, by the code's size: tables for s up to 6, 8 or 12, and polynomials of 64 or of 1,024
+// coefficients. Clearing large arrays costs more than correcting a short code's word.
 //
 // Each function that owns arrays keeps a frame of its own, so that a code takes stack for its own size alone. For that it is called
 // at two places, since the compiler joins a function with its only caller; and an answer is taken apart and made anew,
@@ -118,6 +118,29 @@ fn with_long_arrays(
     Correction::Places(m)
 }
 
+// s up to 6.
+fn with_smallest_tables(
+    n: usize,
+    s: usize,
+    t: usize,
+    c: Certificate,
+    representatives: &[u16],
+    places: &mut [u16],
+    word: &[u8],
+    long: bool,
+) -> Correction
+    requires { ⌜ Given n s t c (now representatives) × Held n (placesOf (now word)) × (n ≤ length (now places)) × (long ≡ false → c .terms < 64) × (s ≤ 6) × (c .terms < 1024) × (n ≤ 127) ⌝ }
+    ensures { λ r. ⌜ Corrected n t (now (representatives .entry)) (placesOf (now (word .entry))) (now (places .exit)) (correctedAs r) ⌝ }
+{
+    let mut powers = [0u16; 320];
+    let mut logs = [0u16; 64];
+    fill(s, &mut powers, &mut logs);
+    if long {
+        return with_long_arrays(n, s, t, c, representatives, &powers, &logs, places, word);
+    }
+    with_short_arrays(n, s, t, c, representatives, &powers, &logs, places, word)
+}
+
 // s up to 8.
 fn with_small_tables(
     n: usize,
@@ -178,10 +201,16 @@ pub fn correct_word(
     ensures { λ r. ⌜ Corrected n t (now (representatives .entry)) (placesOf (now (word .entry))) (now (places .exit)) (correctedAs r) ⌝ }
 {
     if c.terms < 64 {
+        if s <= 6 {
+            return with_smallest_tables(n, s, t, c, representatives, places, word, false);
+        }
         if s <= 8 {
             return with_small_tables(n, s, t, c, representatives, places, word, false);
         }
         return with_large_tables(n, s, t, c, representatives, places, word, false);
+    }
+    if s <= 6 {
+        return with_smallest_tables(n, s, t, c, representatives, places, word, true);
     }
     if s <= 8 {
         return with_small_tables(n, s, t, c, representatives, places, word, true);

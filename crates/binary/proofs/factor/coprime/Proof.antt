@@ -2,7 +2,7 @@
 use native.Mathlib.Omega.{arith}
 use native.Mathlib.Nat.{mod-lt}
 use mathlib.Core.Path.{refl}
-use Rattle.binary.proofs.Coprime.{SameDivisors, divisors-start, divisors-turn, divisors-end}
+use Rattle.binary.proofs.Coprime.{SameDivisors, divisors-start, divisors-turn, divisors-one, divisors-end}
 use Rattle.binary.proofs.factor.coprime.Statement.{statement}
 use Rattle.binary.proofs.factor.coprime.Tie as tie
 
@@ -25,7 +25,10 @@ loop-again : tie.Need-loop-again Inv-loop μ-loop
 loop-again c = divisors-turn refl (c .before .loop .inv)
 
 returns : tie.Need-returns Inv-loop μ-loop
-returns c = divisors-end (omega arith) (c .before .loop .inv)
+returns c = divisors-one (omega arith) (c .before .before .loop .inv)
+
+returns-2 : tie.Need-returns-2 Inv-loop μ-loop
+returns-2 c = divisors-end (omega arith) (c .before .before .loop .inv)
 
 pub coprime-spec : {M : Type 1} → statement M
-coprime-spec = tie.close (tie.spec Inv-loop μ-loop loop-holds rem-r loop-less loop-again returns)
+coprime-spec = tie.close (tie.spec Inv-loop μ-loop loop-holds rem-r loop-less loop-again returns returns-2)

@@ -1,6 +1,6 @@
 -- `decoder::arrays::with_large_tables` meets its contract: tables for s up to 12.
 use mathlib.Core.Path.{refl, sym}
-use Rattle.decoder.proofs.Cleared.{degree-of, large-tables}
+use Rattle.decoder.proofs.Cleared.{degree-of, cleared-tables}
 use Rattle.decoder.proofs.arrays.with_large_tables.Statement.{statement}
 use Rattle.decoder.proofs.arrays.with_large_tables.Tie as tie
 
@@ -11,7 +11,7 @@ slice-aggregate-fill-2 : tie.Need-slice-aggregate-fill-2
 slice-aggregate-fill-2 c = refl
 
 fill-requires : tie.Need-fill-requires
-fill-requires c κs = let p = c .before .before .before .before .before .pre in large-tables (degree-of (p .0))
+fill-requires c κs = let p = c .before .before .before .before .before .pre in let d = degree-of (p .0) in cleared-tables 12 d (d .hi)
 
 slice-aggregate-with-long-arrays : tie.Need-slice-aggregate-with-long-arrays
 slice-aggregate-with-long-arrays c = sym (c .before .before .before .before .fill .kept .1 .0)

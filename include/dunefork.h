@@ -70,6 +70,7 @@ extern "C" {
 #define DUNEFORK_DECODE_STACK 79904
 #define DUNEFORK_DECODE_STACK_SMALL 33824 /* on a sheet whose s, the third number of its listing, is at most 8 */
 #define DUNEFORK_DECODE_STACK_SHORT 6944 /* on such a sheet whose certificates all have fewer than 64 terms (L) */
+#define DUNEFORK_DECODE_STACK_LEAST 4640 /* on such a sheet whose s is at most 6 */
 #define DUNEFORK_CARD_STACK 916
 
 /* What a call returns where it refuses. The conditions are tried in this order; those of certificates (RANGE to TERM) for one

@@ -3,8 +3,8 @@ ghost use mathlib.Core.Path.{_≡_};
 ghost use Prim.Native.Nat.{_<_};
 ghost use Rattle.binary.specs.Factor.{coprime as coprimeOf, degree as degreeOf};
 
-// x and y keep the divisors that a and b have in common: at the end y is 1 and there is none above it, or y is 0 and x is the greatest.
-// Of 1 and any number nothing is divided.
+// x and y keep the divisors that a and b have in common: at the end y is 1 and there is no other, or y is 0 and x is the greatest.
+// Where a is 1 nothing is divided.
 pub fn coprime(a: usize, b: usize) -> bool
     ensures { λ r. ⌜ r ≡ coprimeOf a b ⌝ }
 {

@@ -2,6 +2,8 @@
 --
 --   and-turn                   the step behind both algorithms of Euclid
 --   every-not                  not all numbers below n pass where one does not
+--   both-yes, both-at          the test whether d divides a and b
+--   shared, none               a divisor that both have, of any size, and none
 --   SameDivisors a b x y       a and b have the divisors in common that x and y have
 --   divisors-start, divisors-turn                before and in the loop
 --   divisors-one, divisors-end                   after it, where y is 1 and where it is 0
@@ -48,10 +50,10 @@ divisors-turn {a} {b} {x} {y} {r} e v = record {
       (sym (ap (λ (z : ℕ). z % d) e ∙ mod-mod-of-dvd d x (dvd-of-mod-eq-zero d (eqb-true (y % d) 0 t)))));
 }
 
-both-yes : (d a b : ℕ) → a % d ≡ 0 → b % d ≡ 0 → both d a b ≡ true
+pub both-yes : (d a b : ℕ) → a % d ≡ 0 → b % d ≡ 0 → both d a b ≡ true
 both-yes d a b p q = ap₂ _&&_ (eq-eqb (a % d) 0 p) (eq-eqb (b % d) 0 q)
 
-both-at : (d a b : ℕ) → both d a b ≡ true → (a % d ≡ 0) × (b % d ≡ 0)
+pub both-at : (d a b : ℕ) → both d a b ≡ true → (a % d ≡ 0) × (b % d ≡ 0)
 both-at d a b e = go (eqb (a % d) 0) refl (eqb (b % d) 0) refl e
   where
     go : (p : Bool) → eqb (a % d) 0 ≡ p → (q : Bool) → eqb (b % d) 0 ≡ q → p && q ≡ true → (a % d ≡ 0) × (b % d ≡ 0)
@@ -64,7 +66,7 @@ module _ (a b : ℕ) where
   test d = not (both (d + 2) a b)
 
   -- a divisor that both have, wherever it lies: beyond a + b it divides 0 and 0 alone, as 2 does
-  shared : (d : ℕ) → 2 ≤ d → both d a b ≡ true → coprime a b ≡ false
+  pub shared : (d : ℕ) → 2 ≤ d → both d a b ≡ true → coprime a b ≡ false
   unfolding coprime test
   shared d h e = go (decLt (d - 2) (a + b + 1))
     where
@@ -81,7 +83,7 @@ module _ (a b : ℕ) where
           every-not test (a + b + 1) 0 (omega arith)
           (ap not (both-yes 2 a b (ap (λ (x : ℕ). x % 2) p) (ap (λ (x : ℕ). x % 2) q)))
 
-  none : ((d : ℕ) → 2 ≤ d → both d a b ≡ false) → coprime a b ≡ true
+  pub none : ((d : ℕ) → 2 ≤ d → both d a b ≡ false) → coprime a b ≡ true
   unfolding coprime test
   none h = every-of test (a + b + 1) (λ k l. ap not (h (k + 2) (omega arith)))
 

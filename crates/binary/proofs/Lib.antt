@@ -6,6 +6,7 @@ pub mod CommonFactor
 pub mod MaskPeriod
 pub mod Coefficient
 pub mod Series
+pub mod Meaning
 pub mod Digits
 pub mod Sums
 pub mod LongDivision

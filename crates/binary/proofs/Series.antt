@@ -4,6 +4,7 @@
 --   register-z, register-s     step by step
 --   register-lt                it stays below 2^u for f of degree u
 --   register-eq                h = f·(the first j terms) + x^j·register
+--   term-is                    its lowest coefficient is the term that makes coefficient j of f·a that of h
 --   length-terms, terms-at      n terms; term j is the register's lowest coefficient
 use mathlib.Core.Path.{_≡_, refl, sym, ap, ap₂, _∙_, subst}
 use mathlib.Core.List.{[], _∷_, _++_}
@@ -115,7 +116,7 @@ module _ (f h : ℕ) (odd : f % 2 ≡ 1) where
       up s = mul-assoc s 2 (2 ^ j) ∙ ap (λ (x : ℕ). s * x) (sym (pow-succ' 2 j))
 
   -- coefficient j of that equation
-  term-is : (j : ℕ) → (coefficient j h + total j (λ i. coefficient (j - i) f * out i)) % 2 ≡ out j
+  pub term-is : (j : ℕ) → (coefficient j h + total j (λ i. coefficient (j - i) f * (register f h i % 2))) % 2 ≡ register f h j % 2
   unfolding out
   term-is j =
       let r : ℕ = register f h j in

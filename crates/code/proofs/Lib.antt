@@ -5,3 +5,9 @@ pub mod Judging
 pub mod Entries
 pub mod Ready
 pub mod RoundTrip
+pub mod InTurn
+pub mod Rules
+pub mod Tried
+pub mod Refusing
+pub mod Worded
+pub mod Demands

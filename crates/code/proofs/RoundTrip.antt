@@ -51,7 +51,7 @@ pub record Placed (weight : ℕ → ℕ) (n : ℕ) (bytes : List ℕ) : Type 0 w
   pub small : (i : ℕ) → getD bytes i 0 < 256
   pub clear : spare weight n bytes ≡ false
 
-placed-bytes : {w : ℕ → ℕ} (W : Weights w) (n c : ℕ) → c < 2 ^ n → Placed w n (bytesOf w n c)
+pub placed-bytes : {w : ℕ → ℕ} (W : Weights w) (n c : ℕ) → c < 2 ^ n → Placed w n (bytesOf w n c)
 placed-bytes {w} W n c h = record {
   long = bytes-length w n c;
   small = bytes-lt W n c;

@@ -1,1 +1,4 @@
 pub mod Stating
+pub mod Published
+pub mod Turns
+pub mod Table

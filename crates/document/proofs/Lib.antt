@@ -1,6 +1,7 @@
 -- Laws of the definitions, and the proved tables.
 pub mod Cases
 pub mod Sane
+pub mod Reflect
 pub mod Cosets
 pub mod Theory
 pub mod Stated
@@ -10,3 +11,5 @@ pub mod Settled
 pub mod GeneratorIs
 pub mod Demand2
 pub mod Join
+pub mod Meaning
+pub mod CardIs

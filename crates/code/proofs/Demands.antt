@@ -1,0 +1,170 @@
+-- The three demands, each one theorem about the entries. This is the file to read first.
+--
+-- The contracts of the entries say that reply and bytes are, in document 01's numbers, what judgeOf, encodeOf, readOf, decodeOf and
+-- cardOf give (document/specs/Short.antt), whatever is handed over. What is said of these here is therefore said of the entries.
+--
+--   Demand1, demand-1      every answer, and every refusal exactly at its turn
+--   Demand2, demand-2      codewords, encoding and reading out; certificates, and the distance that they yield
+--   Demand3, demand-3      decoding
+-- A record for each demand, a field for each clause, under the clause's words. All three are for every sheet of bytes, and in it x is what
+-- the sheet states, k and t its k and t. The other words are in specs/Published.antt and specs/Table.antt, with document 01's sentences.
+use mathlib.Core.Path.{_≡_, refl}
+use mathlib.Core.Logic.{_≢_, _↔_, _⊎_}
+use mathlib.Core.List.{List, [], _∷_, _++_}
+use Prim.Native.Nat.{ℕ, _+_, _*_, _/_, _%_, _^_, _≤_, _<_}
+use lib.ListN.{length, getD, drop}
+use Rattle.field.specs.Mask.{coefficient}
+use Rattle.field.specs.Field.{orderOfTwo}
+use Rattle.cyclic.proofs.Division.{_∣ₘ_}
+use Rattle.document.specs.Answer.{Answer, returned, refused, firstOf}
+use Rattle.document.specs.Layout.{wordWeight, messageWeight, maskOf}
+use Rattle.document.specs.Sheet.{Stated, certificateAt}
+use Rattle.document.specs.Generator.{differences}
+use Rattle.document.specs.Certificate.{distance}
+use Rattle.document.specs.Judge.{certificateConditions, dimensionOf, workingOf, workingCertificate}
+use Rattle.document.specs.Entry.{generatorOf, radiusOf, wordOf}
+use Rattle.document.specs.Card.{refusedLine}
+use Rattle.document.specs.Short.{stated, judgeOf, encodeOf, readOf, decodeOf, listing, cardOf}
+use Rattle.code.specs.Published.{Accepted, SheetRead, Word, Message, CodewordOf, InSet, ZeroAt, changes, Published, Rounded, WorkingIs}
+use Rattle.code.specs.Published.{Systematic, Decoded}
+use Rattle.code.specs.Table.{NoneNear, NoneNearSaid, NoCodewordSaid, sheetTurns, encodeTurns, readTurns, decodeTurns, cardTurns, Answered}
+use Rattle.code.proofs.Tried.{judge-answered, encode-answered, read-answered, decode-answered, card-answered}
+use Rattle.code.proofs.Refusing.{read-sheet-bytes, sheet-first, card-writes, card-refused, thirteen-iff, fourteen-iff}
+use Rattle.code.proofs.Worded.{word-place, certificate-published, accepted-published, rounded-said, distance-said, working-said}
+use Rattle.code.proofs.Worded.{record-said, apart-said, multiple-said, zeros-said, encodes-said, reads-said, refused-said}
+use Rattle.code.proofs.Worded.{found-said, decoded-said, none-said}
+
+module _ (sheet : List ℕ) where
+  abbrev x : Stated
+  x = stated sheet
+
+  abbrev k : ℕ
+  k = dimensionOf x
+
+  abbrev t : ℕ
+  t = radiusOf x
+
+  -- ---- demand 1: for every input, of any length and content
+  pub record Demand1 : Type 0 where
+    -- what is stated is what the sheet's bytes say
+    pub bytes : SheetRead sheet x
+    -- each entry answers 0, or 1 to 14 with no values and the lent buffer as it was; and the number r exactly when condition r holds and no
+    -- earlier one in document 01's order does
+    pub judge : Answered (sheetTurns sheet) (judgeOf sheet, []) []
+    pub encode : (message out : List ℕ) → Answered (encodeTurns sheet message out) (encodeOf sheet message out) out
+    pub read : (word out : List ℕ) → Answered (readTurns sheet word out) (readOf sheet word out) out
+    pub decode : (word out : List ℕ) → Answered (decodeTurns sheet word out) (decodeOf sheet word out) out
+    -- card's only refusal is 11, before the sheet is judged
+    pub card : (out : List ℕ) → Answered (cardTurns out) (cardOf sheet out) out
+    -- every entry but card refuses with the sheet's refusal, if it has one
+    pub sheet-refusal : (input out : List ℕ) (r : ℕ) → 0 < r → judgeOf sheet ≡ refused r
+        → (encodeOf sheet input out ≡ (refused r, out)) × (readOf sheet input out ≡ (refused r, out))
+        × (decodeOf sheet input out ≡ (refused r, out))
+    -- card writes its text, returns the text's length, and leaves what stood after it
+    pub card-text : (out : List ℕ) → length out ≡ 1024
+        → cardOf sheet out ≡ (returned (length (listing sheet) ∷ []), listing sheet ++ drop (length (listing sheet)) out)
+    -- the text is `refused r` exactly when judging refuses with r
+    pub card-refusal : (r : ℕ) → 0 < r → (listing sheet ≡ refusedLine r) ↔ (judgeOf sheet ≡ refused r)
+    -- 13 says, whatever was handed over: the sheet is accepted, lengths and spare bits are right, and every codeword differs in more than
+    -- t places
+    pub thirteen : (word out : List ℕ) → (decodeOf sheet word out .0 .number ≡ 13) ↔ NoneNearSaid sheet word out
+    -- 14 says, whatever was handed over: the sheet is accepted, lengths and spare bits are right, and the word is no codeword
+    pub fourteen : (word out : List ℕ) → (readOf sheet word out .0 .number ≡ 14) ↔ NoCodewordSaid sheet word out
+
+  -- ---- demand 2: for every accepted sheet, in bytes
+  pub record Demand2 : Type 0 where
+    -- "place i has weight 2^(i mod 8) in byte i div 8, for words and messages", and is "the coefficient of x^i"
+    pub word-places : (word : List ℕ) (i : ℕ) → i < x .n → coefficient i (wordOf x word) ≡ getD word (i / 8) 0 / 2 ^ (i % 8) % 2
+    pub message-places : (message : List ℕ) (i : ℕ) → i < k
+        → coefficient i (maskOf messageWeight k message) ≡ getD message (i / 8) 0 / 2 ^ (i % 8) % 2
+    -- a word is a codeword ⟺ it is a multiple of the generator
+    pub multiple : Accepted sheet → (word : List ℕ) → CodewordOf x (wordOf x word) ↔ (generatorOf x ∣ₘ wordOf x word)
+    -- ⟺ it is 0 at α^i for every i in D
+    pub zeros : Accepted sheet → (word : List ℕ)
+        → CodewordOf x (wordOf x word) ↔ ((i : ℕ) → InSet (x .n) (x .representatives) i → ZeroAt x i (wordOf x word))
+    -- each message is encoded into its systematic codeword, and reads back the same
+    pub encodes : Accepted sheet → (message out : List ℕ) → Message x message → length out ≡ (x .n + 7) / 8
+        → (word : List ℕ) × (encodeOf sheet message out ≡ (returned (0 ∷ []), word)) × Systematic x message word
+        × ((back : List ℕ) → length back ≡ (k + 7) / 8 → readOf sheet word back ≡ (returned (0 ∷ []), message))
+    -- each codeword reads out as a message, which is encoded into it
+    pub reads : Accepted sheet → (word out : List ℕ) → Word x word → CodewordOf x (wordOf x word) → length out ≡ (k + 7) / 8
+        → (message : List ℕ) × Message x message × (readOf sheet word out ≡ (returned (0 ∷ []), message))
+        × ((back : List ℕ) → length back ≡ (x .n + 7) / 8 → encodeOf sheet message back ≡ (returned (0 ∷ []), word))
+    -- what is no codeword is refused with 14
+    pub no-codeword : Accepted sheet → (word out : List ℕ) → Word x word → ¬ CodewordOf x (wordOf x word) → length out ≡ (k + 7) / 8
+        → readOf sheet word out ≡ (refused 14, out)
+    -- for every sheet that draws none of 1 to 6: certificate i draws none of 7 to 10 ⟺ it meets the published conditions
+    pub certificate : Accepted sheet ⊎ (6 < judgeOf sheet .number) → (i : ℕ) → i < length (x .certificates)
+        → (firstOf (certificateConditions 1023 (x .n) (x .representatives) (certificateAt x i)) ≡ 0)
+        ↔ Published (x .n) (x .representatives) (certificateAt x i)
+    -- and the sheet is accepted ⟺ all its certificates meet them
+    pub acceptance : Accepted sheet ⊎ (6 < judgeOf sheet .number)
+        → Accepted sheet ↔ ((i : ℕ) → i < length (x .certificates) → Published (x .n) (x .representatives) (certificateAt x i))
+    -- every certificate of an accepted sheet yields the published d
+    pub yields : Accepted sheet → (i : ℕ) → i < length (x .certificates) → Rounded (certificateAt x i) (distance (certificateAt x i))
+    -- and different codewords differ in at least that many places
+    pub distances : Accepted sheet → (i : ℕ) → i < length (x .certificates) → (a b : ℕ) → CodewordOf x a → CodewordOf x b → a ≢ b
+        → distance (certificateAt x i) ≤ differences (x .n) a b
+
+  -- ---- demand 3: for every accepted sheet, every word of the right length without spare bits, and every output of the right length
+  pub record Demand3 : Type 0 where
+    -- d and t are those of the working certificate, and judging returns them
+    pub working : Accepted sheet → WorkingIs x (workingOf x) (distance (workingCertificate x)) t
+    pub judged : Accepted sheet
+        → judgeOf sheet
+        ≡ returned (x .n ∷ k ∷ orderOfTwo (x .n) ∷ workingOf x ∷ distance (workingCertificate x) ∷ t ∷ workingCertificate x .L ∷ [])
+    -- the number is 0 ⟺ some codeword differs in at most t places
+    pub found : Accepted sheet → (word out : List ℕ) → Word x word → length out ≡ (x .n + 7) / 8
+        → (decodeOf sheet word out .0 .number ≡ 0) ↔ ((c : ℕ) × CodewordOf x c × (changes x word c ≤ t))
+    -- then the buffer afterwards is a word without spare bits whose places are a codeword c that differs in at most t places, the value
+    -- returned is the number of places in which c and the received word differ, and every other codeword differs in more than t places
+    pub decoded : Accepted sheet → (word out : List ℕ) → Word x word → length out ≡ (x .n + 7) / 8 → decodeOf sheet word out .0 .number ≡ 0
+        → Decoded x word (decodeOf sheet word out)
+    -- the number is 13 ⟺ every codeword differs in more than t places
+    pub none : Accepted sheet → (word out : List ℕ) → Word x word → length out ≡ (x .n + 7) / 8
+        → (decodeOf sheet word out .0 .number ≡ 13) ↔ NoneNear x word
+    -- any two different codewords differ in at least d places
+    pub apart : Accepted sheet → (a b : ℕ) → CodewordOf x a → CodewordOf x b → a ≢ b
+        → distance (workingCertificate x) ≤ differences (x .n) a b
+
+-- ---- they hold
+pub demand-1 : (sheet : List ℕ) → Demand1 sheet
+demand-1 sheet = record {
+  bytes = read-sheet-bytes sheet;
+  judge = judge-answered sheet;
+  encode = encode-answered sheet;
+  read = read-answered sheet;
+  decode = decode-answered sheet;
+  card = card-answered sheet;
+  sheet-refusal = sheet-first sheet;
+  card-text = card-writes sheet;
+  card-refusal = card-refused sheet;
+  thirteen = thirteen-iff sheet;
+  fourteen = fourteen-iff sheet;
+}
+
+pub demand-2 : (sheet : List ℕ) → Demand2 sheet
+unfolding wordWeight messageWeight
+demand-2 sheet = record {
+  word-places = word-place wordWeight (stated sheet .n);
+  message-places = word-place messageWeight (dimensionOf (stated sheet));
+  multiple = multiple-said sheet;
+  zeros = zeros-said sheet;
+  encodes = encodes-said sheet;
+  reads = reads-said sheet;
+  no-codeword = refused-said sheet;
+  certificate = λ h i l. certificate-published sheet h i;
+  acceptance = accepted-published sheet;
+  yields = rounded-said sheet;
+  distances = distance-said sheet;
+}
+
+pub demand-3 : (sheet : List ℕ) → Demand3 sheet
+demand-3 sheet = record {
+  working = working-said sheet;
+  judged = record-said sheet;
+  found = found-said sheet;
+  decoded = decoded-said sheet;
+  none = none-said sheet;
+  apart = apart-said sheet;
+}

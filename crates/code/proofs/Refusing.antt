@@ -1,0 +1,178 @@
+-- What single refusals say.
+--
+--   read-sheet-bytes         what is stated is what a sheet's bytes say
+--   sheet-first              every entry but card refuses with the sheet's refusal
+--   card-writes, card-refused      the text that card writes
+--   thirteen-iff, fourteen-iff      what 13 and 14 say, whatever was handed over
+use mathlib.Core.Path.{_≡_, refl, sym, ap, _∙_, subst}
+use mathlib.Core.Logic.{_↔_, _⊎_, inl, inr}
+use mathlib.Core.List.{List, [], _∷_, _++_}
+use Prim.Native.Nat.{ℕ, zero, suc, _+_, _*_, _/_, _≤_, _<_}
+use native.Mathlib.Omega.{arith}
+use lib.ListN.{length, drop}
+use Rattle.document.specs.Answer.{Answer, returned, refused, Conditions, firstOf, settle}
+use Rattle.document.specs.Layout.{wordWeight}
+use Rattle.document.specs.Sheet.{Certificate, Stated, certificateAt, statedBy}
+use Rattle.document.specs.Judge.{dimensionOf, recordOf, judgeEntry}
+use Rattle.document.specs.Entry.{wordOf, encodeConditions, encodeEntry, readConditions, readEntry, decodeConditions, decodeEntry}
+use Rattle.document.specs.Card.{refusedLine, acceptedLines, listingFor, listingOf, cardConditions, cardEntry}
+use Rattle.document.specs.Short.{short, byteAt, stated, refusalsOf, judgeOf, encodeOf, readOf, decodeOf, listing, cardOf}
+use Rattle.document.proofs.Sane.{settle-number}
+use Rattle.document.proofs.Stated.{representatives-length, representative-is, certificates-length, certificate-is, length-is}
+use Rattle.document.proofs.Chain.{first-quiet, first-keep}
+use Rattle.document.proofs.Acceptance.{judge-number, judge-le, quiet-of, accepted-iff}
+use Rattle.document.proofs.Settled.{entry-sheet}
+use Rattle.document.proofs.Reflect.{eqb-iff}
+use Rattle.document.proofs.CardIs.{refused-injective, accepted-other}
+use Rattle.certificate.proofs.Sheets as Sheets
+use Rattle.code.specs.Turns.{Turns, FirstThatHolds}
+use Rattle.code.specs.Published.{Accepted, CertificateRead, SheetRead, CodewordOf}
+use Rattle.code.specs.Table.{SpareBit, NoneNear, NoneNearSaid, NoCodewordSaid, decodeOwn, readOwn}
+use Rattle.code.proofs.InTurn.{stable, said-none, said-first}
+use Rattle.code.proofs.Tried.{card-said, read-own, decode-own}
+
+-- ---- the text, by the number of the sheet's first condition
+text-accepted : (x : Stated) (r : ℕ) → 0 < r
+    → (listingFor 0 x ≡ refusedLine r) ↔ (settle 0 (recordOf x) [] [] .0 ≡ refused r)
+unfolding listingFor settle
+text-accepted x r p = (
+  λ e. absurd (accepted-other x r e),
+  λ e. let z : _≡_ {A = ℕ} 0 r = ap (λ (a : Answer). a .number) e in absurd (omega arith),
+)
+
+text-refused : (x : Stated) (q r : ℕ) → (listingFor (suc q) x ≡ refusedLine r) ↔ (settle (suc q) (recordOf x) [] [] .0 ≡ refused r)
+unfolding listingFor settle
+text-refused x q r = (
+  λ e. ap refused (refused-injective (suc q) r e),
+  λ e. ap (λ (a : Answer). refusedLine (a .number)) e,
+)
+
+module _ (sheet : List ℕ) where
+  abbrev x : Stated
+  x = stated sheet
+
+  -- ---- bytes
+  certificate-bytes : (i : ℕ) → i < byteAt sheet 6 → CertificateRead sheet (10 + byteAt sheet 3 + 8 * i) (certificateAt x i)
+  certificate-bytes i h =
+      let e = certificate-is short sheet i h in
+      let at : ℕ = 10 + byteAt sheet 3 + 8 * i in
+      let e₃ : at + 2 + 1 ≡ at + 3 = omega arith in
+      let e₇ : at + 6 + 1 ≡ at + 7 = omega arith in
+      record {
+        b = ap (λ (c : Certificate). c .b) e;
+        z = ap (λ (c : Certificate). c .z) e;
+        f = ap (λ (c : Certificate). c .f) e ∙ ap (λ (k : ℕ). byteAt sheet (at + 2) + 256 * byteAt sheet k) e₃;
+        h = ap (λ (c : Certificate). c .h) e;
+        zero = ap (λ (c : Certificate). c .zeroField) e;
+        L = ap (λ (c : Certificate). c .L) e ∙ ap (λ (k : ℕ). byteAt sheet (at + 6) + 256 * byteAt sheet k) e₇;
+      }
+
+  pub read-sheet-bytes : SheetRead sheet x
+  read-sheet-bytes = record {
+    n = length-is short sheet;
+    R = representatives-length short sheet;
+    representative = representative-is short sheet;
+    C = certificates-length short sheet;
+    certificate = certificate-bytes;
+  }
+
+  -- ---- the sheet's refusal
+  pub sheet-first : (input out : List ℕ) (r : ℕ) → 0 < r → judgeOf sheet ≡ refused r
+      → (encodeOf sheet input out ≡ (refused r, out)) × (readOf sheet input out ≡ (refused r, out)) × (decodeOf sheet input out ≡ (refused r, out))
+  unfolding encodeEntry readEntry decodeEntry
+  sheet-first input out r h e = (
+    sym (entry-sheet (refusalsOf sheet) x (encodeConditions x input out) _ _ out r h (sym e)),
+    sym (entry-sheet (refusalsOf sheet) x (readConditions x input out) _ _ out r h (sym e)),
+    sym (entry-sheet (refusalsOf sheet) x (decodeConditions x input out) _ _ out r h (sym e)),
+  )
+
+  -- ---- card
+  pub card-writes : (out : List ℕ) → length out ≡ 1024
+      → cardOf sheet out ≡ (returned (length (listing sheet) ∷ []), listing sheet ++ drop (length (listing sheet)) out)
+  unfolding cardEntry settle
+  card-writes out e =
+      ap (λ (r : ℕ). settle r (length (listing sheet) ∷ []) (listing sheet ++ drop (length (listing sheet)) out) out)
+      (said-none 14 (cardConditions 1024 out) _ (card-said out) .1 (λ n. n e, tt))
+
+  pub card-refused : (r : ℕ) → 0 < r → (listing sheet ≡ refusedLine r) ↔ (judgeOf sheet ≡ refused r)
+  unfolding listingOf judgeEntry
+  card-refused r p = go (firstOf (refusalsOf sheet))
+    where
+      go : (q : ℕ) → (listingFor q x ≡ refusedLine r) ↔ (settle q (recordOf x) [] [] .0 ≡ refused r)
+      go zero = text-accepted x r p
+      go (suc q) = text-refused x q r
+
+  -- ---- 13 and 14
+  own-first : (own : Conditions) (r : ℕ) → 10 < r → (firstOf (refusalsOf sheet ++ own) ≡ r) ↔ ((firstOf (refusalsOf sheet) ≡ 0) × (firstOf own ≡ r))
+  own-first own r h = (
+    there (firstOf (refusalsOf sheet)) refl,
+    λ e. first-quiet own (quiet-of short sheet (e .0)) ∙ e .1,
+  )
+    where
+      there : (q : ℕ) → firstOf (refusalsOf sheet) ≡ q → firstOf (refusalsOf sheet ++ own) ≡ r
+          → (firstOf (refusalsOf sheet) ≡ 0) × (firstOf own ≡ r)
+      there zero q e = (q, sym (first-quiet own (quiet-of short sheet q)) ∙ e)
+      there (suc k) q e = absurd (omega (arith, judge-le short sheet, q, first-keep (refusalsOf sheet) own k q, e))
+
+  is-accepted : firstOf (refusalsOf sheet) ≡ 0 → Accepted sheet
+  is-accepted e = judge-number short sheet ∙ e
+
+  accepted-is : Accepted sheet → firstOf (refusalsOf sheet) ≡ 0
+  accepted-is e = sym (judge-number short sheet) ∙ e
+
+  usable : firstOf (refusalsOf sheet) ≡ 0 → Sheets.Accepted x
+  usable e = Sheets.accepted short (omega arith) sheet e
+
+  same : {a b : ℕ} → ¬ ¬ (a ≡ b) → a ≡ b
+  same {a} {b} n = stable (eqb-iff a b) n
+
+  -- the row of the number is the only one that gives it
+  thirteen-rows : (word out : List ℕ) → Accepted sheet → FirstThatHolds (decodeOwn x word out) 13 → NoneNearSaid sheet word out
+  thirteen-rows word out a (inl h) = absurd (omega (arith, h .0))
+  thirteen-rows word out a (inr (n₁, inl h)) = absurd (omega (arith, h .0))
+  thirteen-rows word out a (inr (n₁, inr (n₂, inl h))) = absurd (omega (arith, h .0))
+  thirteen-rows word out a (inr (n₁, inr (n₂, inr (n₃, inl h)))) =
+      record { accepted = a; word-long = same n₁; out-long = same n₂; no-spare = n₃; none = h .1 }
+  thirteen-rows word out a (inr (n₁, inr (n₂, inr (n₃, inr h)))) = absurd (h .1)
+
+  fourteen-rows : (word out : List ℕ) → Accepted sheet → FirstThatHolds (readOwn x word out) 14 → NoCodewordSaid sheet word out
+  fourteen-rows word out a (inl h) = absurd (omega (arith, h .0))
+  fourteen-rows word out a (inr (n₁, inl h)) = absurd (omega (arith, h .0))
+  fourteen-rows word out a (inr (n₁, inr (n₂, inl h))) = absurd (omega (arith, h .0))
+  fourteen-rows word out a (inr (n₁, inr (n₂, inr (n₃, inl h)))) =
+      record { accepted = a; word-long = same n₁; out-long = same n₂; no-spare = n₃; none = h .1 }
+  fourteen-rows word out a (inr (n₁, inr (n₂, inr (n₃, inr h)))) = absurd (h .1)
+
+  pub thirteen-iff : (word out : List ℕ) → (decodeOf sheet word out .0 .number ≡ 13) ↔ NoneNearSaid sheet word out
+  unfolding decodeEntry
+  thirteen-iff word out =
+      let l : Conditions = decodeConditions x word out in
+      let t : Turns = decodeOwn x word out in
+      let e : decodeOf sheet word out .0 .number ≡ firstOf (refusalsOf sheet ++ l) = settle-number _ _ _ _ in
+      let w = own-first l 13 (omega arith) in (
+        λ q. (let z = w .0 (sym e ∙ q) in
+            thirteen-rows word out (is-accepted (z .0)) (said-first 14 l t (decode-own sheet word out (usable (z .0))) 13 (omega arith) .0 (z .1))),
+        λ s. (let z : firstOf (refusalsOf sheet) ≡ 0 = accepted-is (s .accepted) in
+            e ∙ w .1 (
+              z,
+              said-first 14 l t (decode-own sheet word out (usable z)) 13 (omega arith) .1
+                  (inr (λ n. n (s .word-long), inr (λ n. n (s .out-long), inr (s .no-spare, inl (refl, s .none))))),
+            )),
+      )
+
+  pub fourteen-iff : (word out : List ℕ) → (readOf sheet word out .0 .number ≡ 14) ↔ NoCodewordSaid sheet word out
+  unfolding readEntry
+  fourteen-iff word out =
+      let l : Conditions = readConditions x word out in
+      let t : Turns = readOwn x word out in
+      let e : readOf sheet word out .0 .number ≡ firstOf (refusalsOf sheet ++ l) = settle-number _ _ _ _ in
+      let w = own-first l 14 (omega arith) in (
+        λ q. (let z = w .0 (sym e ∙ q) in
+            fourteen-rows word out (is-accepted (z .0)) (said-first 14 l t (read-own sheet word out) 14 (omega arith) .0 (z .1))),
+        λ s. (let z : firstOf (refusalsOf sheet) ≡ 0 = accepted-is (s .accepted) in
+            e ∙ w .1 (
+              z,
+              said-first 14 l t (read-own sheet word out) 14 (omega arith) .1
+                  (inr (λ n. n (s .word-long), inr (λ n. n (s .out-long), inr (s .no-spare, inl (refl, s .none))))),
+            )),
+      )

@@ -1,0 +1,224 @@
+-- Each entry's conditions, in its order, are the statements of document 01's table.
+--
+--   head-said, sheet-said      the conditions 1 to 6, and 1 to 10
+--   accepted-of              where none of 1 to 10 holds, the sheet is accepted
+--   codeword-said, near-said      a codeword as it is tested; no codeword near as it is searched for
+--   judge-answered, encode-answered, read-answered, decode-answered, card-answered      what each entry answers
+use mathlib.Core.Path.{_≡_, refl, sym, ap, _∙_, subst}
+use mathlib.Core.Logic.{_≢_, _↔_, _⊎_, inl, inr, Iff·trans, Iff·not}
+use mathlib.Core.Bool.{Bool, true, not}
+use mathlib.Core.List.{List, [], _∷_, _++_, flatMap}
+use Prim.Native.Nat.{ℕ, _+_, _-_, _*_, _/_, _%_, _^_, _≤_, _<_}
+use native.Mathlib.Decide.{decLt}
+use native.Mathlib.Omega.{arith}
+use lib.Dec.{eqb}
+use lib.ListN.{length}
+use Rattle.field.specs.Field.{OddLength}
+use Rattle.codeword.proofs.Places.{mask-lt}
+use Rattle.document.specs.Answer.{Conditions, firstOf}
+use Rattle.document.specs.Layout.{wordWeight, messageWeight, bytesFor, spare}
+use Rattle.document.specs.Sheet.{Stated}
+use Rattle.document.specs.Coset.{dimension}
+use Rattle.document.specs.Generator.{isCodeword, Codeword}
+use Rattle.document.specs.Judge.{noMessage, sheetConditions, judgeConditions, dimensionOf, recordOf, judgeEntry}
+use Rattle.document.specs.Entry.{generatorOf, wordOf, nearestMessage, encodeConditions, encodeEntry, readConditions, readEntry}
+use Rattle.document.specs.Entry.{decodeConditions, decodeEntry}
+use Rattle.document.specs.Card.{cardConditions, cardEntry}
+use Rattle.document.specs.Short.{short, stated, refusalsOf, judgeOf, encodeOf, readOf, decodeOf, cardOf}
+use Rattle.document.proofs.Reflect.{Says, not-iff, eqb-iff, not-eq-iff}
+use Rattle.document.proofs.Meaning.{length-iff, code-length-iff, header-iff, representative-iff, degree-iff, spare-iff}
+use Rattle.certificate.proofs.Sheets as Sheets
+use Rattle.code.specs.Turns.{Turns, NoneHolds}
+use Rattle.code.specs.Published.{CodewordOf, changes}
+use Rattle.code.specs.Table.{CodeLength, WrongLength, SpareBit, NoneNear, headTurns, sheetTurns, encodeOwn, encodeTurns}
+use Rattle.code.specs.Table.{readOwn, readTurns, decodeOwn, decodeTurns, cardTurns, Answered}
+use Rattle.code.proofs.InTurn.{Said, said-none, said-append, answered, judged-answered}
+use Rattle.code.proofs.Rules.{certificates-said}
+
+pub odd-length : {n : ℕ} → ¬ CodeLength n → OddLength n
+odd-length {n} h = record {
+  least = elim (decLt n 3) [ yes l ↦ absurd (h (inr (inl l))) | no l ↦ omega arith ];
+  most = elim (decLt 127 n) [ yes l ↦ absurd (h (inr (inr l))) | no l ↦ omega arith ];
+  odd = (let e : n % 2 ≢ 0 = λ q. h (inl q) in omega arith);
+}
+
+pub card-said : (out : List ℕ) → Said 14 (cardConditions 1024 out) (cardTurns out)
+unfolding cardConditions
+card-said out = (omega arith, omega arith, refl, not-eq-iff (length out) 1024, λ n. tt)
+
+module _ (sheet : List ℕ) where
+  abbrev x : Stated
+  x = stated sheet
+
+  -- ---- 1 to 10
+  message-said : Says (noMessage (x .n) (x .representatives)) (dimensionOf x ≡ 0)
+  unfolding noMessage dimensionOf
+  message-said = eqb-iff (dimension (x .n) (x .representatives)) 0
+
+  pub head-said : (top : ℕ) → 6 ≤ top → Said top (sheetConditions short sheet) (headTurns sheet)
+  unfolding sheetConditions
+  head-said top h = (
+    omega arith,
+    omega arith,
+    refl,
+    length-iff sheet,
+    λ n₁. (
+      omega arith,
+      omega arith,
+      refl,
+      code-length-iff (x .n),
+      λ n₂. let o : OddLength (x .n) = odd-length n₂ in (
+        omega arith,
+        omega arith,
+        refl,
+        degree-iff o,
+        λ n₃. (
+          omega arith,
+          omega arith,
+          refl,
+          header-iff sheet,
+          λ n₄. (
+            omega arith,
+            omega arith,
+            refl,
+            representative-iff o (x .representatives),
+            λ n₅. (omega arith, omega arith, refl, message-said, λ n₆. tt),
+          ),
+        ),
+      ),
+    ),
+  )
+
+  pub sheet-said : Said 14 (refusalsOf sheet) (sheetTurns sheet)
+  unfolding judgeConditions
+  sheet-said =
+      said-append 14 (sheetConditions short sheet) (headTurns sheet) _ _ (head-said 14 (omega arith))
+      (λ none. certificates-said (odd-length (none .1 .0)) (x .representatives) (x .certificates))
+
+  pub accepted-of : NoneHolds (sheetTurns sheet) → firstOf (refusalsOf sheet) ≡ 0
+  accepted-of none = said-none 14 (refusalsOf sheet) (sheetTurns sheet) sheet-said .1 none
+
+  usable : NoneHolds (sheetTurns sheet) → Sheets.Accepted x
+  usable none = Sheets.accepted short (omega arith) sheet (accepted-of none)
+
+  -- ---- 11 to 14
+  size-said : (places : ℕ) (buffer : List ℕ) → Says (not (eqb (length buffer) (bytesFor places))) (WrongLength places buffer)
+  unfolding bytesFor
+  size-said places buffer = not-eq-iff (length buffer) ((places + 7) / 8)
+
+  spare-said : (weight : ℕ → ℕ) (n : ℕ) (bytes : List ℕ) → Says (spare weight n bytes) (SpareBit weight n bytes)
+  unfolding bytesFor
+  spare-said weight n bytes = spare-iff weight n bytes
+
+  pub codeword-said : (word : List ℕ)
+      → Says (isCodeword (x .n - dimensionOf x) (generatorOf x) (wordOf x word)) (CodewordOf x (wordOf x word))
+  unfolding dimensionOf generatorOf
+  codeword-said word = (λ e. record { small = mask-lt wordWeight (x .n) word; is = e }, λ c. c .is)
+
+  pub codeword-there : {c : ℕ} → CodewordOf x c → Sheets.SheetCodeword x c
+  unfolding dimensionOf generatorOf
+  codeword-there w = record { small = w .small; is = w .is }
+
+  pub codeword-back : {c : ℕ} → Sheets.SheetCodeword x c → CodewordOf x c
+  unfolding dimensionOf generatorOf
+  codeword-back w = record { small = w .small; is = w .is }
+
+  pub near-said : Sheets.Accepted x → (word : List ℕ) → Says (eqb (nearestMessage x word) (2 ^ dimensionOf x)) (NoneNear x word)
+  near-said a word =
+      Iff·trans (eqb-iff (nearestMessage x word) (2 ^ dimensionOf x))
+      (Iff·trans (Sheets.sheet-none a word) (λ f c w. f c (codeword-there w), λ f c w. f c (codeword-back w)))
+
+  -- ---- the entries
+  module _ (input out : List ℕ) where
+    encode-own : Said 14 (encodeConditions x input out) (encodeOwn x input out)
+    unfolding encodeConditions
+    encode-own = (
+      omega arith,
+      omega arith,
+      refl,
+      size-said (dimensionOf x) input,
+      λ n₁. (
+        omega arith,
+        omega arith,
+        refl,
+        size-said (x .n) out,
+        λ n₂. (omega arith, omega arith, refl, spare-said messageWeight (dimensionOf x) input, λ n₃. tt),
+      ),
+    )
+
+    pub read-own : Said 14 (readConditions x input out) (readOwn x input out)
+    unfolding readConditions
+    read-own = (
+      omega arith,
+      omega arith,
+      refl,
+      size-said (x .n) input,
+      λ n₁. (
+        omega arith,
+        omega arith,
+        refl,
+        size-said (dimensionOf x) out,
+        λ n₂. (
+          omega arith,
+          omega arith,
+          refl,
+          spare-said wordWeight (x .n) input,
+          λ n₃. (
+            omega arith,
+            omega arith,
+            refl,
+            Iff·trans (not-iff (isCodeword (x .n - dimensionOf x) (generatorOf x) (wordOf x input))) (Iff·not (codeword-said input)),
+            λ n₄. tt,
+          ),
+        ),
+      ),
+    )
+
+    pub decode-own : Sheets.Accepted x → Said 14 (decodeConditions x input out) (decodeOwn x input out)
+    unfolding decodeConditions
+    decode-own a = (
+      omega arith,
+      omega arith,
+      refl,
+      size-said (x .n) input,
+      λ n₁. (
+        omega arith,
+        omega arith,
+        refl,
+        size-said (x .n) out,
+        λ n₂. (
+          omega arith,
+          omega arith,
+          refl,
+          spare-said wordWeight (x .n) input,
+          λ n₃. (omega arith, omega arith, refl, near-said a input, λ n₄. tt),
+        ),
+      ),
+    )
+
+    -- ---- what is answered
+    pub encode-answered : Answered (encodeTurns sheet input out) (encodeOf sheet input out) out
+    unfolding encodeEntry
+    encode-answered =
+        answered (refusalsOf sheet ++ encodeConditions x input out) (encodeTurns sheet input out)
+        (said-append 14 (refusalsOf sheet) (sheetTurns sheet) _ _ sheet-said (λ none. encode-own)) _ _ out
+
+    pub read-answered : Answered (readTurns sheet input out) (readOf sheet input out) out
+    unfolding readEntry
+    read-answered =
+        answered (refusalsOf sheet ++ readConditions x input out) (readTurns sheet input out)
+        (said-append 14 (refusalsOf sheet) (sheetTurns sheet) _ _ sheet-said (λ none. read-own)) _ _ out
+
+    pub decode-answered : Answered (decodeTurns sheet input out) (decodeOf sheet input out) out
+    unfolding decodeEntry
+    decode-answered =
+        answered (refusalsOf sheet ++ decodeConditions x input out) (decodeTurns sheet input out)
+        (said-append 14 (refusalsOf sheet) (sheetTurns sheet) _ _ sheet-said (λ none. decode-own (usable none))) _ _ out
+
+  pub judge-answered : Answered (sheetTurns sheet) (judgeOf sheet, []) []
+  unfolding judgeEntry
+  judge-answered = judged-answered (refusalsOf sheet) (sheetTurns sheet) sheet-said (recordOf x)
+
+  pub card-answered : (out : List ℕ) → Answered (cardTurns out) (cardOf sheet out) out
+  unfolding cardEntry
+  card-answered out = answered (cardConditions 1024 out) (cardTurns out) (card-said out) _ _ out

@@ -1,0 +1,258 @@
+-- Demands 2 and 3 in the words of specs/Published.antt: for every sheet of document 01's kind.
+--
+--   places-there, places-back      places in bytes, by a test for spare bits and without
+--   multiple-said, zeros-said      what a codeword is
+--   encodes-said, reads-said, refused-said      encoding and reading out
+--   draws-none               a sheet that draws none of 1 to 6
+--   accepted-published, certificate-published      certificates by the published conditions
+--   working-said, record-said      the working certificate, and the record
+--   found-said, decoded-said, none-said      decoding
+use mathlib.Core.Path.{_≡_, refl, sym, ap, _∙_, subst}
+use mathlib.Core.Logic.{_≢_, _↔_, _⊎_, inl, inr, Iff·trans, Iff·symm}
+use mathlib.Core.Bool.{Bool, true, false}
+use mathlib.Core.List.{List, [], _∷_}
+use Prim.Native.Nat.{ℕ, zero, suc, _+_, _-_, _*_, _/_, _%_, _^_, _≤_, _<_}
+use native.Mathlib.Decide.{decLt, ℕ-discrete}
+use native.Mathlib.Omega.{arith}
+use lib.ListN.{length, getD}
+use Rattle.field.specs.Mask.{coefficient}
+use Rattle.field.specs.Field.{OddLength, orderOfTwo}
+use Rattle.field.proofs.Search.{true-ne-false}
+use Rattle.field.proofs.Xor.{digit-lt}
+use Rattle.cyclic.proofs.Division.{_∣ₘ_}
+use Rattle.document.specs.Answer.{Answer, returned, refused, firstOf}
+use Rattle.document.specs.Layout.{wordWeight, messageWeight, bytesFor, place, maskOf, bytesOf, spare}
+use Rattle.document.specs.Sheet.{Stated, certificateAt}
+use Rattle.document.specs.Generator.{isCodeword, differences}
+use Rattle.document.specs.Certificate.{distance, radius}
+use Rattle.document.specs.Judge.{sheetConditions, certificateConditions, judgeConditions, dimensionOf, workingOf, workingCertificate, recordOf}
+use Rattle.document.specs.Entry.{generatorOf, radiusOf, wordOf}
+use Rattle.document.specs.Short.{short, stated, refusalsOf, judgeOf, encodeOf, readOf, decodeOf}
+use Rattle.document.proofs.Chain.{first-keep}
+use Rattle.document.proofs.Acceptance.{Rules, judge-number, certificate-iff, accepted-rules, accepted-record}
+use Rattle.document.proofs.Meaning.{set-iff, spare-iff, radius-is, working-iff}
+use Rattle.codeword.proofs.Places.{word-weights, mask-lt, mask-coefficient, mask-of-bytes}
+use Rattle.certificate.proofs.Sheets as Sheets
+use Rattle.certificate.proofs.Decoding as Decoding
+use Rattle.code.specs.Turns.{NoneHolds}
+use Rattle.code.specs.Published.{Accepted, Places, Word, Message, CodewordOf, InSet, ZeroAt, changes, Published, Rounded, WorkingIs}
+use Rattle.code.specs.Published.{Systematic, Decoded}
+use Rattle.code.specs.Table.{NoneNear, headTurns}
+use Rattle.code.proofs.InTurn.{said-none, said-le, said-quiet}
+use Rattle.code.proofs.Rules.{published-iff, rounded-of}
+use Rattle.code.proofs.Tried.{odd-length, head-said, codeword-said, codeword-there, codeword-back}
+use Rattle.code.proofs.RoundTrip as RoundTrip
+
+-- ---- places in bytes
+module _ {weight : ℕ → ℕ} {n : ℕ} {bytes : List ℕ} where
+  pub places-there : Places weight n bytes → RoundTrip.Placed weight n bytes
+  unfolding bytesFor
+  places-there p = record { long = p .long; small = p .small; clear = none (spare weight n bytes) refl }
+    where
+      none : (b : Bool) → spare weight n bytes ≡ b → spare weight n bytes ≡ false
+      none true e =
+          let w = spare-iff weight n bytes .0 e in
+          absurd (omega (arith, w .3, p .clear (w .0) (w .1) (w .2)))
+      none false e = e
+
+  pub places-back : RoundTrip.Placed weight n bytes → Places weight n bytes
+  unfolding bytesFor place
+  places-back p = record {
+    small = p .small;
+    long = p .long;
+    clear = λ i h l. elim (ℕ-discrete (place weight bytes i) 1) [
+      | yes e ↦ absurd (true-ne-false (spare-iff weight n bytes .1 (i, h, l, e)) (p .clear))
+      | no e ↦ omega (arith, digit-lt (getD bytes (i / 8) 0 / weight i))
+    ];
+  }
+
+pub word-place : (weight : ℕ → ℕ) (n : ℕ) (bytes : List ℕ) (i : ℕ) → i < n
+    → coefficient i (maskOf weight n bytes) ≡ getD bytes (i / 8) 0 / weight i % 2
+unfolding place
+word-place weight n bytes i h = mask-coefficient weight n bytes i h
+
+module _ (sheet : List ℕ) where
+  abbrev x : Stated
+  x = stated sheet
+
+  -- ---- a sheet that draws none of 1 to 6
+  pub draws-none : Accepted sheet ⊎ (6 < judgeOf sheet .number) → NoneHolds (headTurns sheet)
+  unfolding judgeConditions
+  draws-none h = said-none 6 (sheetConditions short sheet) (headTurns sheet) (head-said sheet 6 (omega arith)) .0 (go (firstOf (sheetConditions short sheet)) refl)
+    where
+      go : (r : ℕ) → firstOf (sheetConditions short sheet) ≡ r → firstOf (sheetConditions short sheet) ≡ 0
+      go zero e = e
+      go (suc r) e =
+          let k : judgeOf sheet .number ≡ suc r = judge-number short sheet ∙ first-keep (sheetConditions short sheet) _ r e in
+          let l : firstOf (sheetConditions short sheet) ≤ 6 =
+          said-le 6 (sheetConditions short sheet) (headTurns sheet) (head-said sheet 6 (omega arith)) in
+          elim h [ inl z ↦ absurd (omega (arith, k, z)) | inr z ↦ absurd (omega (arith, k, l, e, z)) ]
+
+  -- ---- certificates
+  odd : Accepted sheet ⊎ (6 < judgeOf sheet .number) → OddLength (x .n)
+  odd h = odd-length (draws-none h .1 .0)
+
+  pub certificate-published : Accepted sheet ⊎ (6 < judgeOf sheet .number) → (i : ℕ)
+      → (firstOf (certificateConditions 1023 (x .n) (x .representatives) (certificateAt x i)) ≡ 0)
+      ↔ Published (x .n) (x .representatives) (certificateAt x i)
+  certificate-published h i = published-iff (odd h) (x .representatives) (certificateAt x i)
+
+  rules-published : Accepted sheet ⊎ (6 < judgeOf sheet .number) → (i : ℕ)
+      → Rules 1023 (x .n) (x .representatives) (certificateAt x i) ↔ Published (x .n) (x .representatives) (certificateAt x i)
+  rules-published h i =
+      Iff·trans (Iff·symm (certificate-iff 1023 (x .n) (x .representatives) (certificateAt x i))) (certificate-published h i)
+
+  pub accepted-published : Accepted sheet ⊎ (6 < judgeOf sheet .number)
+      → Accepted sheet ↔ ((i : ℕ) → i < length (x .certificates) → Published (x .n) (x .representatives) (certificateAt x i))
+  accepted-published h =
+      let w = accepted-rules short sheet in (
+        λ e i l. rules-published h i .0 (w .0 e .1 i l),
+        λ p. w .1 (
+          said-quiet 6 (sheetConditions short sheet) (headTurns sheet) (head-said sheet 6 (omega arith)) (draws-none h),
+          λ i l. rules-published h i .1 (p i l),
+        ),
+      )
+
+  -- ---- an accepted sheet
+  module _ (e : Accepted sheet) where
+    a : Sheets.Accepted x
+    a = Sheets.accepted short (omega arith) sheet (sym (judge-number short sheet) ∙ e)
+
+    pub rounded-said : (i : ℕ) → i < length (x .certificates) → Rounded (certificateAt x i) (distance (certificateAt x i))
+    rounded-said i l = rounded-of (accepted-published (inl e) .0 e i l .rule1)
+
+    pub distance-said : (i : ℕ) → i < length (x .certificates) → (c d : ℕ) → CodewordOf x c → CodewordOf x d → c ≢ d
+        → distance (certificateAt x i) ≤ differences (x .n) c d
+    distance-said i l c d v w ne = Sheets.sheet-distance a i l (codeword-there sheet v) (codeword-there sheet w) ne
+
+    pub working-said : WorkingIs x (workingOf x) (distance (workingCertificate x)) (radiusOf x)
+    unfolding workingOf workingCertificate radiusOf
+    working-said =
+        let w = working-iff (length (x .certificates)) (λ i. radius (certificateAt x i)) (workingOf x) (a .head .one) .0 refl in
+        record {
+          below = w .0;
+          d-is = refl;
+          t-is = refl;
+          halves = λ i l. radius-is (certificateAt x i);
+          largest = w .1;
+          first = w .2;
+        }
+
+    pub record-said :
+        judgeOf sheet
+        ≡ returned (x .n ∷ dimensionOf x ∷ orderOfTwo (x .n) ∷ workingOf x ∷ distance (workingCertificate x) ∷ radiusOf x ∷ workingCertificate x .L ∷ [])
+    unfolding recordOf radiusOf
+    record-said = accepted-record short sheet e
+
+    pub apart-said : (c d : ℕ) → CodewordOf x c → CodewordOf x d → c ≢ d → distance (workingCertificate x) ≤ differences (x .n) c d
+    unfolding workingCertificate
+    apart-said c d v w ne = distance-said (workingOf x) (working-said .below) c d v w ne
+
+    -- ---- codewords
+    pub multiple-said : (word : List ℕ) → CodewordOf x (wordOf x word) ↔ (generatorOf x ∣ₘ wordOf x word)
+    multiple-said word =
+        Iff·trans (Iff·symm (codeword-said sheet word)) (RoundTrip.codeword-multiple short sheet (omega arith) e (wordOf x word))
+
+    pub zeros-said : (word : List ℕ)
+        → CodewordOf x (wordOf x word) ↔ ((i : ℕ) → InSet (x .n) (x .representatives) i → ZeroAt x i (wordOf x word))
+    zeros-said word =
+        Iff·trans (Iff·symm (codeword-said sheet word))
+        (Iff·trans (RoundTrip.codeword-set short sheet (omega arith) e (wordOf x word)) (
+          λ f i w. f i (set-iff (odd (inl e)) (x .representatives) i .1 w),
+          λ f i t. f i (set-iff (odd (inl e)) (x .representatives) i .0 t),
+        ))
+
+    -- ---- encoding and reading out
+    pub encodes-said : (message out : List ℕ) → Message x message → length out ≡ (x .n + 7) / 8
+        → (word : List ℕ) × (encodeOf sheet message out ≡ (returned (0 ∷ []), word)) × Systematic x message word
+        × ((back : List ℕ) → length back ≡ (dimensionOf x + 7) / 8 → readOf sheet word back ≡ (returned (0 ∷ []), message))
+    unfolding bytesFor
+    encodes-said message out m l = (
+      RoundTrip.codewordOf short sheet message,
+      sym (RoundTrip.encodes short sheet (omega arith) e out (places-there m) l),
+      record {
+        is-word = places-back (RoundTrip.codeword-word short sheet (omega arith) e message);
+        is-codeword = codeword-said sheet (RoundTrip.codewordOf short sheet message) .0 (RoundTrip.codeword-is short sheet (omega arith) e message);
+        high = RoundTrip.codeword-place short sheet (omega arith) e message;
+        low = RoundTrip.codeword-low short sheet (omega arith) e message;
+      },
+      λ back k. sym (RoundTrip.read-back short sheet (omega arith) e back (places-there m) k),
+    )
+
+    pub reads-said : (word out : List ℕ) → Word x word → CodewordOf x (wordOf x word) → length out ≡ (dimensionOf x + 7) / 8
+        → (message : List ℕ) × Message x message × (readOf sheet word out ≡ (returned (0 ∷ []), message))
+        × ((back : List ℕ) → length back ≡ (x .n + 7) / 8 → encodeOf sheet message back ≡ (returned (0 ∷ []), word))
+    unfolding bytesFor
+    reads-said word out w c l =
+        let t : isCodeword (x .n - dimensionOf x) (generatorOf x) (wordOf x word) ≡ true = codeword-said sheet word .1 c in
+        let m = RoundTrip.message-message short sheet (omega arith) e word in (
+          RoundTrip.messageIn short sheet word,
+          places-back m,
+          sym (RoundTrip.reads short sheet (omega arith) e out (places-there w) l t),
+          λ back k. sym (RoundTrip.encodes short sheet (omega arith) e back m k)
+              ∙ ap (λ (y : List ℕ). (returned (0 ∷ []), y)) (RoundTrip.encode-back short sheet (omega arith) e (places-there w) t),
+        )
+
+    pub refused-said : (word out : List ℕ) → Word x word → ¬ CodewordOf x (wordOf x word) → length out ≡ (dimensionOf x + 7) / 8
+        → readOf sheet word out ≡ (refused 14, out)
+    unfolding bytesFor
+    refused-said word out w n l =
+        sym (RoundTrip.none-refused short sheet (omega arith) e out (places-there w) l (no-codeword (test word) refl))
+      where
+        test : List ℕ → Bool
+        test word = isCodeword (x .n - dimensionOf x) (generatorOf x) (wordOf x word)
+
+        no-codeword : (b : Bool) → isCodeword (x .n - dimensionOf x) (generatorOf x) (wordOf x word) ≡ b
+            → isCodeword (x .n - dimensionOf x) (generatorOf x) (wordOf x word) ≡ false
+        no-codeword true q = absurd (n (codeword-said sheet word .0 q))
+        no-codeword false q = q
+
+    -- ---- decoding
+    module _ (word out : List ℕ) (w : Word x word) (l : length out ≡ (x .n + 7) / 8) where
+      form : Decoding.RightForm x word out
+      unfolding bytesFor
+      form = let p = places-there w in record { word-long = p .long; out-long = l; clear = p .clear }
+
+      pub found-said : (decodeOf sheet word out .0 .number ≡ 0) ↔ ((c : ℕ) × CodewordOf x c × (changes x word c ≤ radiusOf x))
+      found-said = (
+        λ q. elim (Decoding.demand-3 short (omega arith) sheet e word out form) [
+          | inl f ↦ (f .0, codeword-back sheet (f .1), f .2)
+          | inr f ↦ absurd (omega (arith, q, ap (λ (y : Answer × List ℕ). y .0 .number) (f .1)))
+        ],
+        λ f. sym (ap (λ (y : Answer × List ℕ). y .0 .number)
+            (Decoding.decode-found short (omega arith) sheet e word out form (codeword-there sheet (f .1)) (f .2))),
+      )
+
+      pub none-said : (decodeOf sheet word out .0 .number ≡ 13) ↔ NoneNear x word
+      none-said = (
+        λ q. elim (Decoding.demand-3 short (omega arith) sheet e word out form) [
+          | inl f ↦ absurd (omega (arith, q, ap (λ (y : Answer × List ℕ). y .0 .number) (f .3)))
+          | inr f ↦ λ c v. f .0 c (codeword-there sheet v)
+        ],
+        λ f. sym (ap (λ (y : Answer × List ℕ). y .0 .number)
+            (Decoding.decode-none short (omega arith) sheet e word out form (λ c v. f c (codeword-back sheet v)))),
+      )
+
+      -- what is written is c in bytes
+      written : {c : ℕ} → CodewordOf x c → changes x word c ≤ radiusOf x
+          → Decoded x word (returned (changes x word c ∷ []), bytesOf wordWeight (x .n) c)
+      written {c} v h =
+          let q : wordOf x (bytesOf wordWeight (x .n) c) ≡ c = mask-of-bytes word-weights (x .n) c (v .small) in
+          record {
+            is-word = places-back (RoundTrip.placed-bytes word-weights (x .n) c (v .small));
+            is-codeword = subst (CodewordOf x) (sym q) v;
+            near = subst (λ (y : ℕ). changes x word y ≤ radiusOf x) (sym q) h;
+            counted = ap (λ (y : ℕ). changes x word y ∷ []) (sym q);
+            others = λ d u ne. elim (decLt (radiusOf x) (changes x word d)) [
+              | yes k ↦ k
+              | no k ↦
+                  absurd (ne (Sheets.sheet-unique a (wordOf x word) (codeword-there sheet u) (codeword-there sheet v) (omega arith) h ∙ sym q))
+            ];
+          }
+
+      pub decoded-said : decodeOf sheet word out .0 .number ≡ 0 → Decoded x word (decodeOf sheet word out)
+      decoded-said q =
+          let f = found-said .0 q in
+          subst (Decoded x word)
+          (Decoding.decode-found short (omega arith) sheet e word out form (codeword-there sheet (f .1)) (f .2))
+          (written (f .1) (f .2))

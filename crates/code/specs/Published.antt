@@ -1,0 +1,168 @@
+-- What document 01 publishes, in statements with no search in them: the words in which proofs/Demands.antt says the three demands.
+--
+--   Accepted sheet                 judging refuses nothing
+--   CertificateRead, SheetRead     what a sheet's bytes state
+--   Places, Word, Message          words and messages in bytes
+--   CodewordOf, InSet, ZeroAt, changes      codewords, D, a mask's value at α^i, and changed places
+--   HasDegree, Coprime             the degree of a mask; no number above 1 divides both
+--   Rule1 .. Rule4, Published      the rules of a certificate
+--   Rounded, WorkingIs             d, and the working certificate with d and t
+--   Systematic, Decoded            what encoding and decoding write
+-- No contract of an entry cites this file.
+use mathlib.Core.Path.{_≡_}
+use mathlib.Core.Logic.{_≢_, _⊎_}
+use mathlib.Core.List.{List, [], _∷_}
+use Prim.Native.Nat.{ℕ, suc, _+_, _-_, _*_, _/_, _%_, _^_, _≤_, _<_, _∣_}
+use lib.ListN.{length, getD}
+use Rattle.field.specs.Search.{total}
+use Rattle.field.specs.Mask.{_⊕_, coefficient, remainder}
+use Rattle.field.specs.Field.{fieldPower, orderOfTwo, α}
+use Rattle.cyclic.proofs.Division.{_∣ₘ_}
+use Rattle.document.specs.Answer.{Answer}
+use Rattle.document.specs.Layout.{wordWeight, messageWeight, place, maskOf}
+use Rattle.document.specs.Sheet.{Certificate, Stated, certificateAt}
+use Rattle.document.specs.Generator.{valueAt, Codeword, differences}
+use Rattle.document.specs.Certificate.{distance, radius}
+use Rattle.document.specs.Judge.{dimensionOf}
+use Rattle.document.specs.Entry.{generatorOf, radiusOf, wordOf}
+use Rattle.document.specs.Short.{byteAt, judgeOf}
+
+-- ---- the words
+-- "A sheet that draws none of 1 to 10 is accepted."
+abbrev pub Accepted : List ℕ → Type 0
+Accepted sheet = judgeOf sheet .number ≡ 0
+
+-- what a sheet's bytes state: "A header of counts and offsets, 16-bit numbers low byte first .. Then R bytes: representatives .. Then C
+-- times 8 bytes: b, z, f (two bytes), h, a byte 0, L (two bytes)."
+pub record CertificateRead (sheet : List ℕ) (at : ℕ) (c : Certificate) : Type 0 where
+  pub b : c .b ≡ byteAt sheet at
+  pub z : c .z ≡ byteAt sheet (at + 1)
+  pub f : c .f ≡ byteAt sheet (at + 2) + 256 * byteAt sheet (at + 3)
+  pub h : c .h ≡ byteAt sheet (at + 4)
+  pub zero : c .zeroField ≡ byteAt sheet (at + 5)
+  pub L : c .L ≡ byteAt sheet (at + 6) + 256 * byteAt sheet (at + 7)
+
+pub record SheetRead (sheet : List ℕ) (x : Stated) : Type 0 where
+  pub n : x .n ≡ byteAt sheet 2
+  pub R : length (x .representatives) ≡ byteAt sheet 3
+  pub representative : (i : ℕ) → i < byteAt sheet 3 → getD (x .representatives) i 0 ≡ byteAt sheet (10 + i)
+  pub C : length (x .certificates) ≡ byteAt sheet 6
+  pub certificate : (i : ℕ) → i < byteAt sheet 6 → CertificateRead sheet (10 + byteAt sheet 3 + 8 * i) (certificateAt x i)
+
+-- "place i has weight 2^(i mod 8) in byte i div 8, for words and messages. A word has n/8 bytes and a message k/8, each rounded up.
+-- Spare bits of the last byte are 0."
+pub record Places (weight : ℕ → ℕ) (n : ℕ) (bytes : List ℕ) : Type 0 where
+  pub small : (i : ℕ) → getD bytes i 0 < 256
+  pub long : length bytes ≡ (n + 7) / 8
+  pub clear : (i : ℕ) → n ≤ i → i < (n + 7) / 8 * 8 → place weight bytes i ≡ 0
+
+abbrev pub Word : Stated → List ℕ → Type 0
+Word x = Places wordWeight (x .n)
+
+abbrev pub Message : Stated → List ℕ → Type 0
+Message x = Places messageWeight (dimensionOf x)
+
+-- a codeword of the code that is stated: n places that the generator divides
+abbrev pub CodewordOf : Stated → ℕ → Type 0
+CodewordOf x c = Codeword (x .n) (x .representatives) c
+
+-- i is r·2^j mod n for a representative r and some j
+abbrev pub InSet : ℕ → List ℕ → ℕ → Type 0
+InSet n reps i = (m : ℕ) × (m < length reps) × ((j : ℕ) × (getD reps m 0 * 2 ^ j % n ≡ i))
+
+-- the value of the mask c at α^i is 0
+abbrev pub ZeroAt : Stated → ℕ → ℕ → Type 0
+ZeroAt x i c = let s : ℕ = orderOfTwo (x .n) in valueAt s (fieldPower s (α s (x .n)) i) c ≡ 0
+
+-- in how many places a word in bytes differs from c
+abbrev pub changes : Stated → List ℕ → ℕ → ℕ
+changes x word c = differences (x .n) (wordOf x word) c
+
+-- ---- the published conditions of a certificate, with no search in them
+pub record HasDegree (f u : ℕ) : Type 0 where
+  pub low : 2 ^ u ≤ f
+  pub high : f < 2 ^ suc u
+
+-- no number above 1 divides both
+abbrev pub Coprime : ℕ → ℕ → Type 0
+Coprime a b = (d : ℕ) → 1 < d → d ∣ a → ¬ (d ∣ b)
+
+-- "1. b is below n; z is 1 to n - 1 and coprime to n; u is 1 to 8 and f has constant term 1; h isn't 0 and v < u; L is 1 to 1,023; its
+-- zero byte on the sheet is 0"
+pub record Rule1 (n : ℕ) (c : Certificate) : Type 0 where
+  pub b : c .b < n
+  pub z : (1 ≤ c .z) × (c .z ≤ n - 1)
+  pub z-coprime : Coprime (c .z) n
+  pub u : ℕ
+  pub u-is : HasDegree (c .f) u
+  pub u-range : (1 ≤ u) × (u ≤ 8)
+  pub constant : coefficient 0 (c .f) ≡ 1
+  pub h : c .h ≢ 0
+  pub v : ℕ
+  pub v-is : HasDegree (c .h) v
+  pub v-range : v < u
+  pub L : (1 ≤ c .L) × (c .L ≤ 1023)
+  pub zero : c .zeroField ≡ 0
+
+-- "2. h and f have no common factor": no mask of degree 1 or more, which is a number above 1, divides both
+abbrev pub Rule2 : Certificate → Type 0
+Rule2 c = (d : ℕ) → 1 < d → d ∣ₘ c .h → ¬ (d ∣ₘ c .f)
+
+-- "3. the period of f, the smallest p above 0 for which f divides x^p + 1, is coprime to n"
+pub record Rule3 (n : ℕ) (c : Certificate) : Type 0 where
+  pub p : ℕ
+  pub above : 0 < p
+  pub divides : c .f ∣ₘ 2 ^ p ⊕ 1
+  pub smallest : (q : ℕ) → 0 < q → c .f ∣ₘ 2 ^ q ⊕ 1 → p ≤ q
+  pub coprime : Coprime p n
+
+-- "The sequence a0, a1, .. is the power series h/f over two elements": f times the series a is h.
+-- "4. for each j below L, aj is 0 or (b + j·z) mod n is in D."
+pub record Rule4 (n : ℕ) (reps : List ℕ) (c : Certificate) : Type 0 where
+  pub a : ℕ → ℕ
+  pub two : (j : ℕ) → a j < 2
+  pub series : (j : ℕ) → total (suc j) (λ i. coefficient (j - i) (c .f) * a i) % 2 ≡ coefficient j (c .h)
+  pub covered : (j : ℕ) → j < c .L → (a j ≡ 0) ⊎ InSet n reps ((c .b + j * c .z) % n)
+
+pub record Published (n : ℕ) (reps : List ℕ) (c : Certificate) : Type 0 where
+  pub rule1 : Rule1 n c
+  pub rule2 : Rule2 c
+  pub rule3 : Rule3 n c
+  pub rule4 : Rule4 n reps c
+
+-- "Its distance is d = (L - v)/u + 1, rounded up": the least d with d·u ≥ L - v + u
+pub record Rounded (c : Certificate) (d : ℕ) : Type 0 where
+  pub u : ℕ
+  pub u-is : HasDegree (c .f) u
+  pub v : ℕ
+  pub v-is : HasDegree (c .h) v
+  pub enough : c .L + u ≤ d * u + v
+  pub least : (e : ℕ) → c .L + u ≤ e * u + v → d ≤ e
+
+-- "The working certificate is the first one with the largest t = (d - 1)/2 rounded down; the sheet's d and t are its own."
+pub record WorkingIs (x : Stated) (w d t : ℕ) : Type 0 where
+  pub below : w < length (x .certificates)
+  pub d-is : d ≡ distance (certificateAt x w)
+  pub t-is : t ≡ radius (certificateAt x w)
+  pub halves : (i : ℕ) → i < length (x .certificates)
+      → (2 * radius (certificateAt x i) + 1 ≤ distance (certificateAt x i)) × (distance (certificateAt x i) ≤ 2 * radius (certificateAt x i) + 2)
+  pub largest : (i : ℕ) → i < length (x .certificates) → radius (certificateAt x i) ≤ t
+  pub first : (i : ℕ) → i < w → radius (certificateAt x i) < t
+
+-- the word that a message is encoded into
+pub record Systematic (x : Stated) (message word : List ℕ) : Type 0 where
+  pub is-word : Word x word
+  pub is-codeword : CodewordOf x (wordOf x word)
+  -- "Message bit i stands in place n - k + i."
+  pub high : (i : ℕ) → i < dimensionOf x → place wordWeight word (x .n - dimensionOf x + i) ≡ place messageWeight message i
+  -- "Places below n - k hold the remainder of x^(n-k)·m(x) by the generator."
+  pub low : wordOf x word % 2 ^ (x .n - dimensionOf x)
+      ≡ remainder (x .n - dimensionOf x) (generatorOf x) (maskOf messageWeight (dimensionOf x) message * 2 ^ (x .n - dimensionOf x))
+
+-- the buffer after decoding, and what is returned
+pub record Decoded (x : Stated) (word : List ℕ) (reply : Answer × List ℕ) : Type 0 where
+  pub is-word : Word x (reply .1)
+  pub is-codeword : CodewordOf x (wordOf x (reply .1))
+  pub near : changes x word (wordOf x (reply .1)) ≤ radiusOf x
+  pub counted : reply .0 .values ≡ changes x word (wordOf x (reply .1)) ∷ []
+  pub others : (c : ℕ) → CodewordOf x c → c ≢ wordOf x (reply .1) → radiusOf x < changes x word c

@@ -23,13 +23,13 @@ use Rattle.document.specs.Generator.{differences}
 use Rattle.document.specs.Certificate.{distance}
 use Rattle.document.specs.Judge.{certificateConditions, dimensionOf, workingOf, workingCertificate}
 use Rattle.document.specs.Entry.{generatorOf, radiusOf, wordOf}
-use Rattle.document.specs.Card.{refusedLine}
+use Rattle.document.specs.Card.{refusedLine, acceptedLines}
 use Rattle.document.specs.Short.{stated, judgeOf, encodeOf, readOf, decodeOf, listing, cardOf}
 use Rattle.code.specs.Published.{Accepted, SheetRead, Word, Message, CodewordOf, InSet, ZeroAt, changes, Published, Rounded, WorkingIs}
 use Rattle.code.specs.Published.{Systematic, Decoded}
 use Rattle.code.specs.Table.{NoneNear, NoneNearSaid, NoCodewordSaid, sheetTurns, encodeTurns, readTurns, decodeTurns, cardTurns, Answered}
 use Rattle.code.proofs.Tried.{judge-answered, encode-answered, read-answered, decode-answered, card-answered}
-use Rattle.code.proofs.Refusing.{read-sheet-bytes, sheet-first, card-writes, card-refused, thirteen-iff, fourteen-iff}
+use Rattle.code.proofs.Refusing.{read-sheet-bytes, sheet-first, card-writes, text-refused-iff, text-listed-iff, thirteen-iff, fourteen-iff}
 use Rattle.code.proofs.Worded.{word-place, certificate-published, accepted-published, rounded-said, distance-said, working-said}
 use Rattle.code.proofs.Worded.{record-said, apart-said, multiple-said, zeros-said, encodes-said, reads-said, refused-said}
 use Rattle.code.proofs.Worded.{found-said, decoded-said, none-said}
@@ -65,6 +65,8 @@ module _ (sheet : List ℕ) where
         → cardOf sheet out ≡ (returned (length (listing sheet) ∷ []), listing sheet ++ drop (length (listing sheet)) out)
     -- the text is `refused r` exactly when judging refuses with r
     pub card-refusal : (r : ℕ) → 0 < r → (listing sheet ≡ refusedLine r) ↔ (judgeOf sheet ≡ refused r)
+    -- and the listing of the sheet exactly when it is accepted
+    pub card-listing : (listing sheet ≡ acceptedLines x) ↔ Accepted sheet
     -- 13 says, whatever was handed over: the sheet is accepted, lengths and spare bits are right, and every codeword differs in more than
     -- t places
     pub thirteen : (word out : List ℕ) → (decodeOf sheet word out .0 .number ≡ 13) ↔ NoneNearSaid sheet word out
@@ -138,7 +140,8 @@ demand-1 sheet = record {
   card = card-answered sheet;
   sheet-refusal = sheet-first sheet;
   card-text = card-writes sheet;
-  card-refusal = card-refused sheet;
+  card-refusal = text-refused-iff sheet;
+  card-listing = text-listed-iff sheet;
   thirteen = thirteen-iff sheet;
   fourteen = fourteen-iff sheet;
 }

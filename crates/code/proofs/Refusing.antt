@@ -2,7 +2,7 @@
 --
 --   read-sheet-bytes         what is stated is what a sheet's bytes say
 --   sheet-first              every entry but card refuses with the sheet's refusal
---   card-writes, card-refused      the text that card writes
+--   card-writes, text-refused-iff, text-listed-iff      the text that card writes
 --   thirteen-iff, fourteen-iff      what 13 and 14 say, whatever was handed over
 use mathlib.Core.Path.{_≡_, refl, sym, ap, _∙_, subst}
 use mathlib.Core.Logic.{_↔_, _⊎_, inl, inr}
@@ -94,13 +94,21 @@ module _ (sheet : List ℕ) where
       ap (λ (r : ℕ). settle r (length (listing sheet) ∷ []) (listing sheet ++ drop (length (listing sheet)) out) out)
       (said-none 14 (cardConditions 1024 out) _ (card-said out) .1 (λ n. n e, tt))
 
-  pub card-refused : (r : ℕ) → 0 < r → (listing sheet ≡ refusedLine r) ↔ (judgeOf sheet ≡ refused r)
+  pub text-refused-iff : (r : ℕ) → 0 < r → (listing sheet ≡ refusedLine r) ↔ (judgeOf sheet ≡ refused r)
   unfolding listingOf judgeEntry
-  card-refused r p = go (firstOf (refusalsOf sheet))
+  text-refused-iff r p = go (firstOf (refusalsOf sheet))
     where
       go : (q : ℕ) → (listingFor q x ≡ refusedLine r) ↔ (settle q (recordOf x) [] [] .0 ≡ refused r)
       go zero = text-accepted x r p
       go (suc q) = text-refused x q r
+
+  pub text-listed-iff : (listing sheet ≡ acceptedLines x) ↔ Accepted sheet
+  unfolding listingOf listingFor judgeEntry settle
+  text-listed-iff = go (firstOf (refusalsOf sheet))
+    where
+      go : (q : ℕ) → (listingFor q x ≡ acceptedLines x) ↔ (settle q (recordOf x) [] [] .0 .number ≡ 0)
+      go zero = (λ e. refl, λ e. refl)
+      go (suc q) = (λ e. absurd (accepted-other x (suc q) (sym e)), λ e. absurd (omega arith))
 
   -- ---- 13 and 14
   own-first : (own : Conditions) (r : ℕ) → 10 < r → (firstOf (refusalsOf sheet ++ own) ≡ r) ↔ ((firstOf (refusalsOf sheet) ≡ 0) × (firstOf own ≡ r))

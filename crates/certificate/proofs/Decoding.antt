@@ -1,11 +1,11 @@
--- Demand 3, of the definition of decoding, in bytes: for every accepted sheet of any kind, received word and buffer of the right
+-- What decoding answers and writes, by its definition, in bytes: for every accepted sheet of any kind, received word and buffer of the right
 -- length.
 --
 --   RightForm x word out      the lengths are right, and no spare bit is 1
 --   stated-found, stated-none      the same of what is stated, whatever the sheet
 --   decode-found      a codeword within t places is what decoding writes, with the number of changed places
 --   decode-none       where there is none, 13, and the buffer as it was
---   demand-3          one of the two, always
+--   found-or-none     one of the two, always
 use mathlib.Core.Path.{_≡_, refl, sym, ap, _∙_}
 use mathlib.Core.Logic.{_⊎_, inl, inr}
 use mathlib.Core.Bool.{Bool, false}
@@ -92,11 +92,11 @@ module _ (kind : Kind) (small : kind .mostPlaces ≤ 65535) (sheet : List ℕ) (
   decode-none f = stated-none a quiet word out r f
 
   -- a codeword within t places, and it is written with the number of changed places; or 13, and there is none
-  pub demand-3 :
+  pub found-or-none :
       ((c : ℕ) × SheetCodeword x c × (changed x word c ≤ radiusOf x)
       × (decoding ≡ (returned (changed x word c ∷ []), bytesOf wordWeight (x .n) c)))
       ⊎ (((c : ℕ) → SheetCodeword x c → radiusOf x < changed x word c) × (decoding ≡ (refused 13, out)))
-  demand-3 =
+  found-or-none =
       elim (ℕ-discrete (nearestMessage x word) (2 ^ dimensionOf x)) [
         | yes e ↦ (let f = sheet-none a word .0 e in inr (f, sym (decode-none f)))
         | no e ↦

@@ -1,8 +1,7 @@
 -- The rules of a certificate in the theory's words.
 --
 --   register-digit    the terms of h/f are the theory's digits
---   no-factor         coprime numbers have no factor in common
---   mask-divides, no-common      nor have masks for which `common` says no
+--   no-factor, no-common      numbers that are coprime, and masks for which `common` says no, have no factor in common
 --   Sound n reps c    a certificate that meets rules 1 to 4, whatever the largest L; sound-of: by the rules
 --   covered-here      rule 4 term by term
 --   theory            it is one of the theory, over the code of n and reps: distance-is, radius-is
@@ -11,23 +10,22 @@ use mathlib.Core.Logic.{_≢_, _⊎_, inl, inr}
 use mathlib.Core.Bool.{Bool, true, false, not, _||_, _&&_}
 use mathlib.Core.List.{List}
 use Prim.Native.Nat.{ℕ, zero, suc, _+_, _-_, _*_, _/_, _%_, _^_, _≤_, _<_, _∣_}
-use native.Mathlib.Nat.{le-of-dvd, mod-eq-zero-of-dvd, pos-of-dvd-of-pos}
-use native.Mathlib.Decide.{decLt}
+use native.Mathlib.Nat.{pos-of-dvd-of-pos}
+use native.Mathlib.Decide.{decLt, ℕ-discrete}
 use native.Mathlib.Omega.{arith}
 use lib.Dec.{T, eqb}
 use lib.ListN.{getD}
 use borrow.Author.Tests.{eqb-true, eq-eqb}
-use Rattle.field.specs.Mask.{_⊕_, clmul, size, remainder}
-use Rattle.field.proofs.Search.{true-ne-false, some-none, every-at}
+use Rattle.field.specs.Mask.{_⊕_, clmul}
+use Rattle.field.proofs.Search.{true-ne-false, every-at}
 use Rattle.field.proofs.Xor.{digit-lt}
-use Rattle.field.proofs.MaskProduct.{size-lt, digit-mul, clmul-zero-l}
-use Rattle.binary.specs.Factor.{coprime, degree, divides, common, period, terms, Modulus}
+use Rattle.field.proofs.MaskProduct.{digit-mul, clmul-zero-l}
+use Rattle.binary.specs.Factor.{coprime, degree, common, period, terms, Modulus}
 use Rattle.binary.proofs.Degree.{degree-top}
-use Rattle.binary.proofs.MaskPeriod.{period-divides}
 use Rattle.binary.proofs.Series.{register, register-z, register-s, terms-at}
-use Rattle.cyclic.proofs.Division.{_∣ₘ_, divides-iff}
+use Rattle.binary.proofs.Meaning.{coprime-iff, common-iff, period-divisor}
 use Rattle.cyclic.proofs.NumberGcd.{NoFactor}
-use Rattle.cyclic.proofs.MaskGcd.{NoCommon, divisor-le}
+use Rattle.cyclic.proofs.MaskGcd.{NoCommon}
 use Rattle.cyclic.proofs.Ratio.{next, digits, digits-z, digits-s}
 use Rattle.cyclic.proofs.Apart.{apart}
 use Rattle.cyclic.proofs.Radius.{distanceOf, radiusFor}
@@ -53,63 +51,23 @@ register-digit f h zero = ap (λ (r : ℕ). r % 2) (register-z f h) ∙ sym (dig
 register-digit f h (suc j) =
     ap (λ (r : ℕ). r % 2) (register-on f h j) ∙ register-digit f (next f h) j ∙ sym (digits-s f h j)
 
--- ---- factors
+-- ---- factors: a divisor that is not above 1 is 1
 pub no-factor : (a b : ℕ) → 0 < b → coprime a b ≡ true → NoFactor b a
-unfolding coprime
-no-factor a b h e d x y = go (decLt d 2)
-  where
-    pos : 0 < d
-    pos = pos-of-dvd-of-pos x h
-
-    le : d ≤ b
-    le = le-of-dvd h x
-
-    go : Dec (d < 2) → d ≡ 1
-    go (yes l) = omega (arith, pos)
-    go (no l) =
-        let k : ℕ = d - 2 in
-        let up : k + 2 ≡ d = omega arith in
-        let t : not (eqb (a % (k + 2)) 0 && eqb (b % (k + 2)) 0) ≡ true =
-        every-at (λ d. not (eqb (a % (d + 2)) 0 && eqb (b % (d + 2)) 0)) (a + b + 1) e k (omega (arith, le)) in
-        let za : eqb (a % (k + 2)) 0 ≡ true = eq-eqb (a % (k + 2)) 0 (ap (λ (m : ℕ). a % m) up ∙ mod-eq-zero-of-dvd d y) in
-        let zb : eqb (b % (k + 2)) 0 ≡ true = eq-eqb (b % (k + 2)) 0 (ap (λ (m : ℕ). b % m) up ∙ mod-eq-zero-of-dvd d x) in
-        absurd (true-ne-false t (ap₂ (λ p q. not (p && q)) za zb))
-
-mask-divides : (d a : ℕ) → 0 < d → d ∣ₘ a → divides d a ≡ true
-unfolding divides
-mask-divides d a h w = eq-eqb (remainder (degree d) d a) 0 (divides-iff (degree d) d (degree-top d h) a .0 w)
-
-pub divides-mask : (d a : ℕ) → 0 < d → divides d a ≡ true → d ∣ₘ a
-unfolding divides
-divides-mask d a h e = divides-iff (degree d) d (degree-top d h) a .1 (eqb-true (remainder (degree d) d a) 0 e)
+no-factor a b h e d x y = elim (decLt 1 d) [
+  | yes l ↦ absurd (coprime-iff a b .0 e d l y x)
+  | no l ↦ omega (arith, pos-of-dvd-of-pos x h)
+]
 
 no-common : (f h : ℕ) → 0 < f → common f h ≡ false → NoCommon f h
-unfolding common
-no-common f h p e d x y = go (decLt d 2)
-  where
-    le : d ≤ f
-    le = divisor-le d f p x
-
-    pos : 0 < d
-    pos = zero-not (decLt 0 d)
-      where
-        zero-not : Dec (0 < d) → 0 < d
-        zero-not (yes l) = l
-        zero-not (no l) =
-            let z : d ≡ 0 = omega arith in
-            let q : f ≡ 0 = x .1 ∙ ap (λ (m : ℕ). clmul m (x .0)) z ∙ clmul-zero-l (x .0) in
-            absurd (omega arith)
-
-    go : Dec (d < 2) → d ≡ 1
-    go (yes l) = omega (arith, pos)
-    go (no l) =
-        let k : ℕ = d - 2 in
-        let up : k + 2 ≡ d = omega arith in
-        let b : f < 2 ^ size f = size-lt f in
-        let t : divides (k + 2) f && divides (k + 2) h ≡ false =
-        some-none (λ d. divides (d + 2) f && divides (d + 2) h) (2 ^ size f - 2) e k (omega (arith, le)) in
-        let u : (a : ℕ) → d ∣ₘ a → divides (k + 2) a ≡ true = λ a w. ap (λ (m : ℕ). divides m a) up ∙ mask-divides d a (omega arith) w in
-        absurd (true-ne-false (ap₂ _&&_ (u f x) (u h y)) t)
+no-common f h p e d x y = elim (decLt 1 d) [
+  | yes l ↦ absurd (true-ne-false (common-iff f h p .1 (d, l, x, y)) e)
+  | no l ↦ elim (ℕ-discrete d 0) [
+    | yes z ↦
+        (let q : f ≡ 0 = x .1 ∙ ap (λ (m : ℕ). clmul m (x .0)) z ∙ clmul-zero-l (x .0) in
+        absurd (omega arith))
+    | no z ↦ omega arith
+  ]
+]
 
 -- ---- the certificate
 pub record Sound (n : ℕ) (reps : List ℕ) (c : Written) : Type 0 where
@@ -174,7 +132,7 @@ module _ {n : ℕ} (l : Length n) (reps : List ℕ) (c : Written) (s : Sound n r
     h-degree = degree-top (c .h) h-pos;
     v-lt = in-range .v;
     fh = no-common-here;
-    apart = apart (codeOf l reps) (c .f) (period (c .f)) (divides-mask (c .f) _ f-pos (period-divides modulus)) period-here;
+    apart = apart (codeOf l reps) (c .f) (period (c .f)) (period-divisor modulus) period-here;
     terms = covered-here;
   }
 

@@ -215,7 +215,7 @@ module _ (sheet : List ℕ) where
 
       pub found-said : (decodeOf sheet word out .0 .number ≡ 0) ↔ ((c : ℕ) × CodewordOf x c × (changes x word c ≤ radiusOf x))
       found-said = (
-        λ q. elim (Decoding.demand-3 short (omega arith) sheet e word out form) [
+        λ q. elim (Decoding.found-or-none short (omega arith) sheet e word out form) [
           | inl f ↦ (f .0, codeword-back sheet (f .1), f .2)
           | inr f ↦ absurd (omega (arith, q, ap (λ (y : Answer × List ℕ). y .0 .number) (f .1)))
         ],
@@ -225,7 +225,7 @@ module _ (sheet : List ℕ) where
 
       pub none-said : (decodeOf sheet word out .0 .number ≡ 13) ↔ NoneNear x word
       none-said = (
-        λ q. elim (Decoding.demand-3 short (omega arith) sheet e word out form) [
+        λ q. elim (Decoding.found-or-none short (omega arith) sheet e word out form) [
           | inl f ↦ absurd (omega (arith, q, ap (λ (y : Answer × List ℕ). y .0 .number) (f .3)))
           | inr f ↦ λ c v. f .0 c (codeword-there sheet v)
         ],

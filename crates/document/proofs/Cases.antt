@@ -5,7 +5,7 @@
 --   facts, encodes, decodes             what the definitions say, as numbers
 --   said, expected, cases-hold          the twelve cases: what the definitions say is what document 01 says
 --   refusals-hold                       the examples of "Refused, by number", 1 to 14, by their numbers
---   near-hold                           near misses: rows that definitions a step away would get wrong
+--   near-hold                           near misses: each row with the misreadings that it catches
 --   listing-holds                       the listing of sheet H, byte for byte
 -- Where document 01 abbreviates an example of a refusal, the sheet is H with what is said changed.
 use mathlib.Core.Path.{_≡_, refl}
@@ -162,7 +162,7 @@ refusals-hold : refusals ≡ 1 ∷ 2 ∷ 3 ∷ 4 ∷ 5 ∷ 6 ∷ 7 ∷ 8 ∷ 9 �
 unfolding refusals judged decoded readOut sheetH sheetE sheetS oneCertificate sheetOf definitions
 refusals-hold = refl
 
--- ---- near misses: rows that definitions a step away would get wrong
+-- ---- near misses: rows that definitions a step away would get wrong. Beside each row stand the misreadings that it catches.
 twoCertificates : ℕ → List ℕ → List ℕ → List ℕ → List ℕ
 twoCertificates n reps c d = sheetOf n reps (c ++ d) (26 + length reps) 2
 
@@ -177,61 +177,61 @@ answered r = r .0 .number ∷ r .0 .values ++ r .1
 
 near : List (List ℕ)
 near =
-    record-of (oneCertificate 7 (1 ∷ []) 0 1 3 1 2)  -- 0 is not in D, the last term is
-    ∷ record-of (oneCertificate 7 (1 ∷ []) 1 2 3 1 2)  -- 1, 3: the step counts
-    ∷ record-of (oneCertificate 7 (1 ∷ []) 1 3 3 1 2)  -- 1, 4
-    ∷ record-of (twoCertificates 7 (1 ∷ []) (certificateOf 1 1 3 0 1 2) (certificateOf 1 1 3 0 1 2))  -- the first of two equal
-    ∷ record-of (twoCertificates 7 (0 ∷ 1 ∷ []) (certificateOf 0 1 3 0 1 2) (certificateOf 0 1 3 0 1 3))  -- d 3 and 4, one t: the first
-    ∷ record-of (twoCertificates 15 (1 ∷ 3 ∷ []) (certificateOf 1 1 3 0 1 2) (certificateOf 1 1 3 0 1 4))  -- the larger t
-    ∷ record-of (twoCertificates 7 (1 ∷ []) (certificateOf 1 1 3 0 1 2) (certificateOf 1 1 3 0 1 3))  -- the second is refused
-    ∷ record-of (twoCertificates 7 (1 ∷ []) (certificateOf 1 1 3 0 1 3) (certificateOf 1 0 3 0 1 2))  -- 10 of the first before 7 of the second
-    ∷ record-of (oneCertificate 7 (0 ∷ 1 ∷ []) 0 1 31 8 1)  -- L is not above v: d is 1
-    ∷ record-of (oneCertificate 15 (1 ∷ []) 1 3 3 1 1)  -- z and n have a common factor
-    ∷ record-of (oneCertificate 7 (1 ∷ 0 ∷ []) 1 1 3 1 2)  -- representatives falling
-    ∷ record-of (oneCertificate 7 (3 ∷ 1 ∷ 0 ∷ []) 1 1 3 1 2)  -- and k = 0: 5 before 6
-    ∷ record-of (sheetOf 7 (1 ∷ []) (certificateOf 1 1 3 2 1 2) 19 1)  -- f = 515 has degree 9
-    ∷ record-of (oneCertificate 7 (1 ∷ []) 1 1 6 1 2)  -- f has no constant term
-    ∷ record-of (oneCertificate 15 (1 ∷ []) 1 1 19 1 1)  -- the period of f is 15
-    ∷ record-of (sheetOf 7 [] (certificateOf 0 1 7 0 2 1) 18 1)  -- R = 0
-    ∷ answered (readOf sheetH (11 ∷ []) (0xAA ∷ []))  -- a codeword is read
-    ∷ answered (readOf sheetH (10 ∷ []) (0xAA ∷ []))  -- a refusal leaves the lent byte
-    ∷ answered (decodeOf sheetH (10 ∷ []) (0xAA ∷ 0xBB ∷ []))  -- the output's length counts
-    ∷ answered (decodeOf sheetH (0x8A ∷ []) (0xAA ∷ 0xBB ∷ []))  -- and before spare bits
-    ∷ answered (decodeOf sheetH (0x8A ∷ []) (0xAA ∷ []))  -- a spare bit of the input
-    ∷ answered (decodeOf sheetH (10 ∷ []) (0xAA ∷ []))  -- one of the output is no matter
-    ∷ answered (encodeOf sheetH (0x12 ∷ []) (0xAA ∷ []))  -- a spare bit of a message
-    ∷ answered (encodeOf (oneCertificate 9 (0 ∷ []) 0 1 3 1 1) (1 ∷ []) (0xAA ∷ 0xBB ∷ []))  -- k = 8 takes one byte, n = 9 two
-    ∷ answered (cardOf sheetH (0xAA ∷ []))  -- a buffer too short for the listing
+    record-of (oneCertificate 7 (1 ∷ []) 0 1 3 1 2)  -- terms looked at from j = 1 on, or the last alone: 1 is in D, 0 is not
+    ∷ record-of (oneCertificate 7 (1 ∷ []) 1 2 3 1 2)  -- z left out, or multiplied by: the places are 1, 3, not 1, 2
+    ∷ record-of (oneCertificate 7 (1 ∷ []) 1 3 3 1 2)  -- no z but 1 admitted: the places 1, 4 are in D
+    ∷ record-of (sheetS 8)  -- d rounded down: it is 4.5, so 5, and t is 2, not 1
+    ∷ record-of (oneCertificate 7 (0 ∷ 1 ∷ []) 0 1 31 8 1)  -- L below v refused, or d taken as 0 or from v - L: it is 1
+    ∷ record-of (oneCertificate 9 (0 ∷ []) 0 1 31 1 1)  -- 2^u - 1 = 15 taken for the period of f, which is 5
+    ∷ record-of (twoCertificates 7 (0 ∷ 1 ∷ []) (certificateOf 0 1 3 0 1 2) (certificateOf 0 1 3 0 1 3))  -- the largest d at work, or the last of the largest t: d is 3 and 4, t is 1 and 1
+    ∷ record-of (twoCertificates 15 (1 ∷ 3 ∷ []) (certificateOf 1 1 3 0 1 2) (certificateOf 1 1 3 0 1 4))  -- the first at work whatever its t
+    ∷ record-of (twoCertificates 7 (1 ∷ []) (certificateOf 1 1 3 0 1 2) (certificateOf 1 1 3 0 1 3))  -- the first alone judged
+    ∷ record-of (twoCertificates 7 (1 ∷ []) (certificateOf 1 1 3 0 1 3) (certificateOf 1 0 3 0 1 2))  -- 7 tried for both before 10 for the first
+    ∷ record-of (oneCertificate 15 (1 ∷ []) 1 3 3 1 1)  -- z not held to be coprime to n
+    ∷ record-of (sheetOf 7 (1 ∷ []) (certificateOf 1 1 3 2 1 2) 19 1)  -- the high byte of f not read: f is 515, not 3
+    ∷ record-of (oneCertificate 7 (1 ∷ []) 1 1 6 1 2)  -- f not held to have constant term 1
+    ∷ record-of (oneCertificate 7 (1 ∷ 1 ∷ []) 1 1 3 1 2)  -- a representative may be that before it
+    ∷ record-of (oneCertificate 7 (3 ∷ 1 ∷ 0 ∷ []) 1 1 3 1 2)  -- a representative may be below that before it; 6 tried before 5
+    ∷ record-of (sheetOf 7 [] (certificateOf 0 1 7 0 2 1) 18 1)  -- R = 0 refused; a term that is 0 held to D
+    ∷ answered (encodeOf (oneCertificate 9 (0 ∷ []) 0 1 3 1 1) (1 ∷ []) (0xAA ∷ 0xBB ∷ []))  -- a byte more for k = 8, or one less for n = 9
+    ∷ answered (encodeOf sheetH (0x12 ∷ []) (0xAA ∷ []))  -- a message's spare bits taken from n on, not from k; the output written beside 12
+    ∷ answered (readOf sheetH (11 ∷ []) (0xAA ∷ []))  -- the message taken from the low places; every word refused
+    ∷ answered (readOf sheetH (10 ∷ []) (0xAA ∷ []))  -- the output written beside 14
+    ∷ answered (decodeOf sheetH (10 ∷ []) (0xAA ∷ []))  -- old bits of the output kept, or a spare one of them refused
+    ∷ answered (decodeOf sheetH (0x8A ∷ []) (0xAA ∷ 0xBB ∷ []))  -- an output too long taken; 12 tried before it
+    ∷ answered (decodeOf (sheetE 3) (0x83 ∷ []) (0xAA ∷ []))  -- 13 tried before 12
+    ∷ answered (decodeOf (sheetE 3) (3 ∷ []) (0xAA ∷ []))  -- the output cleared, or a word written, beside 13
+    ∷ answered (cardOf sheetH (0xAA ∷ []))  -- what fits of the listing written beside 11
     ∷ []
 
 near-hold : near
     ≡ (10 ∷ [])
     ∷ (10 ∷ [])
     ∷ (0 ∷ 7 ∷ 4 ∷ 3 ∷ 0 ∷ 3 ∷ 1 ∷ 2 ∷ [])
-    ∷ (0 ∷ 7 ∷ 4 ∷ 3 ∷ 0 ∷ 3 ∷ 1 ∷ 2 ∷ [])
+    ∷ (0 ∷ 17 ∷ 9 ∷ 8 ∷ 0 ∷ 5 ∷ 2 ∷ 8 ∷ [])
+    ∷ (0 ∷ 7 ∷ 3 ∷ 3 ∷ 0 ∷ 1 ∷ 0 ∷ 1 ∷ [])
+    ∷ (0 ∷ 9 ∷ 8 ∷ 6 ∷ 0 ∷ 2 ∷ 0 ∷ 1 ∷ [])
     ∷ (0 ∷ 7 ∷ 3 ∷ 3 ∷ 0 ∷ 3 ∷ 1 ∷ 2 ∷ [])
     ∷ (0 ∷ 15 ∷ 7 ∷ 4 ∷ 1 ∷ 5 ∷ 2 ∷ 4 ∷ [])
     ∷ (10 ∷ [])
     ∷ (10 ∷ [])
-    ∷ (0 ∷ 7 ∷ 3 ∷ 3 ∷ 0 ∷ 1 ∷ 0 ∷ 1 ∷ [])
+    ∷ (7 ∷ [])
+    ∷ (7 ∷ [])
     ∷ (7 ∷ [])
     ∷ (5 ∷ [])
     ∷ (5 ∷ [])
-    ∷ (7 ∷ [])
-    ∷ (7 ∷ [])
-    ∷ (9 ∷ [])
     ∷ (0 ∷ 7 ∷ 7 ∷ 3 ∷ 0 ∷ 1 ∷ 0 ∷ 1 ∷ [])
+    ∷ (0 ∷ 0 ∷ 3 ∷ 0 ∷ [])
+    ∷ (12 ∷ 0xAA ∷ [])
     ∷ (0 ∷ 0 ∷ 1 ∷ [])
     ∷ (14 ∷ 0xAA ∷ [])
-    ∷ (11 ∷ 0xAA ∷ 0xBB ∷ [])
-    ∷ (11 ∷ 0xAA ∷ 0xBB ∷ [])
-    ∷ (12 ∷ 0xAA ∷ [])
     ∷ (0 ∷ 1 ∷ 11 ∷ [])
+    ∷ (11 ∷ 0xAA ∷ 0xBB ∷ [])
     ∷ (12 ∷ 0xAA ∷ [])
-    ∷ (0 ∷ 0 ∷ 3 ∷ 0 ∷ [])
+    ∷ (13 ∷ 0xAA ∷ [])
     ∷ (11 ∷ 0xAA ∷ [])
     ∷ []
-unfolding near record-of answered twoCertificates certificateOf sheetH oneCertificate sheetOf cardEntry cardConditions definitions
+unfolding near record-of answered twoCertificates certificateOf sheetH sheetE sheetS oneCertificate sheetOf cardEntry cardConditions definitions
 near-hold = refl
 
 -- ---- the listing

@@ -7,6 +7,7 @@ pub mod MaskProduct
 pub mod Remainder
 pub mod Pigeonhole
 pub mod Primitive
+pub mod Smallest
 pub mod Elements
 pub mod Value
 pub mod Numbers

@@ -3,6 +3,7 @@
 --   xpow s p k       x^k modulo p
 --   Primitive s p    p has degree s, and x has order 2^s - 1 modulo p
 --   isPrimitive      the test; isPrimitive-sound: what it shows
+--   allFrom          a test of every entry of the table; at-degree: what it says at one degree
 --   all-primitive    the test over the whole table
 --   primitive        the rule: so is the table's mask of each degree
 --   Degree-bounds    4 ≤ 2^s ≤ 4096
@@ -38,7 +39,7 @@ walk s p (suc n) a = not (eqb a 1) && walk s p n (xtime s p a)
 isPrimitive : ℕ → ℕ → Bool
 isPrimitive s p = ltb 0 s && (eqb (p / 2 ^ s) 1 && walk s p (2 ^ s - 2) (xtime s p 1))
 
-both : (a b : Bool) → T (a && b) → T a × T b
+pub both : (a b : Bool) → T (a && b) → T a × T b
 both true b t = (tt, t)
 both false b t = absurd t
 
@@ -73,29 +74,31 @@ isPrimitive-sound s p t =
       least = λ k h l e. let q : 1 + (k - 1) ≡ k = omega arith in w .1 (k - 1) (omega arith) (ap (xpow s p) q ∙ e);
     }
 
--- ---- the table
-allFrom : ℕ → List ℕ → Bool
-allFrom s [] = true
-allFrom s (p ∷ ps) = isPrimitive s p && allFrom (suc s) ps
+-- ---- the table: a test of each entry, with its degree
+unfoldable pub allFrom : (ℕ → ℕ → Bool) → ℕ → List ℕ → Bool
+allFrom test s [] = true
+allFrom test s (p ∷ ps) = test s p && allFrom test (suc s) ps
+
+at : (test : ℕ → ℕ → Bool) (ps : List ℕ) (s i : ℕ) → T (allFrom test s ps) → i < length ps → T (test (s + i) (getD ps i 0))
+unfolding allFrom
+at test [] s i t h = absurd (not-suc-le-zero h)
+at test (p ∷ ps) s zero t h = let e : s + 0 ≡ s = omega arith in rw e (both (test s p) (allFrom test (suc s) ps) t .0)
+at test (p ∷ ps) s (suc i) t h =
+    let e : s + suc i ≡ suc s + i = omega arith in
+    rw e (at test ps (suc s) i (both (test s p) (allFrom test (suc s) ps) t .1) (le-of-suc-le-suc h))
+
+pub at-degree : {s : ℕ} (test : ℕ → ℕ → Bool) → T (allFrom test 2 masks) → Degree s → T (test s (mask s))
+unfolding mask masks
+at-degree {s} test t d =
+    let e : 2 + (s - 2) ≡ s = omega (arith, d .lo) in rw e at (at test masks 2 (s - 2) t (omega (arith, d .lo, d .hi)))
 
 -- computed once: some 8,000 steps
-all-primitive : T (allFrom 2 masks)
+all-primitive : T (allFrom isPrimitive 2 masks)
 unfolding allFrom masks isPrimitive walk xtime _⊕_
 all-primitive = tt
 
-at : (ps : List ℕ) (s i : ℕ) → T (allFrom s ps) → i < length ps → T (isPrimitive (s + i) (getD ps i 0))
-unfolding allFrom
-at [] s i t h = absurd (not-suc-le-zero h)
-at (p ∷ ps) s zero t h = let e : s + 0 ≡ s = omega arith in rw e (both (isPrimitive s p) (allFrom (suc s) ps) t .0)
-at (p ∷ ps) s (suc i) t h =
-    let e : s + suc i ≡ suc s + i = omega arith in
-    rw e (at ps (suc s) i (both (isPrimitive s p) (allFrom (suc s) ps) t .1) (le-of-suc-le-suc h))
-
 pub primitive : {s : ℕ} → Degree s → Primitive s (mask s)
-unfolding mask masks
-primitive {s} d =
-    let e : 2 + (s - 2) ≡ s = omega (arith, d .lo) in
-    isPrimitive-sound s (mask s) (rw e at (at masks 2 (s - 2) all-primitive (omega (arith, d .lo, d .hi))))
+primitive {s} d = isPrimitive-sound s (mask s) (at-degree isPrimitive all-primitive d)
 
 pub Degree-bounds : {s : ℕ} → Degree s → (4 ≤ 2 ^ s) × (2 ^ s ≤ 4096)
 Degree-bounds d = (pow-mono (d .lo), pow-mono (d .hi))

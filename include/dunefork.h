@@ -21,8 +21,9 @@
  * Calls. Every call is handed the sheet's bytes and judges the sheet first. Nothing is kept between calls: no heap, no global
  * state. Calls from several threads need no lock, as long as no other thread writes to a buffer that a call uses.
  *     Each buffer goes with its length in bytes, and nothing outside is read or written. A length must be exact: an input or an
- * `out` that is too long is refused like one that is too short. `out` must not overlap the other buffers, so a word is not
- * decoded in its own place. A pointer may be any address, also a null one, where its length is 0.
+ * `out` that is too long is refused like one that is too short. A pointer may be any address, also a null one, where its length is 0.
+ *     `out` must not overlap the sheet or the input, so a word is not decoded in its own place. If it does, by a single byte, nothing
+ * that is said here holds of the call: it may return any number, and read and write outside the buffers. No call looks for that.
  *     A return of 0 or more says that it is done. A negative one is a refusal, minus the number that document 01 gives it, and
  * then `out` is as it was, every byte of it.
  *
@@ -43,9 +44,9 @@
  *     then C certificates of 8 bytes: start b, step z, mask f (two bytes), mask h, a byte 0, number of terms L (two bytes).
  * The program linkcard tells what a sheet amounts to: tools/linkcard sheets/bch-15-7.hex.
  *
- * What is proved. For every sheet, input and buffer of any length the code behind these functions replies and writes exactly what
- * its definitions say (crates/document/specs, and crates/dunefork/specs for the number returned). The compiler's back end, the
- * calling convention and this header are not proved, nor are time, stack and secrecy.
+ * What is proved. For every sheet, input and buffer of any length, `out` apart from the other two, the code behind these functions
+ * replies and writes exactly what its definitions say (crates/document/specs, and crates/dunefork/specs for the number returned). The
+ * compiler's back end, the calling convention and this header are not proved, nor are time, stack and secrecy.
  */
 #ifndef DUNEFORK_H
 #define DUNEFORK_H

@@ -1,0 +1,2 @@
+-- What a stream's listing needs of it.
+pub mod Streams

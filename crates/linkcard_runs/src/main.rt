@@ -1,0 +1,21 @@
+// What linkcard does, on the files of data/: a sheet that is refused, one as long as any, and streams that are longer.
+use libc::STDOUT_FILENO;
+
+fn main() {
+    list(b"sheet_s_with_10_terms");
+    list(b"bytes_74");
+    list(b"bytes_75_as_stated");
+    list(b"bytes_100_of_74_stated");
+}
+
+// A file's name, and the listing of what it holds.
+fn list(name: &[u8]) {
+    io::write_all(STDOUT_FILENO, name);
+    io::write_all(STDOUT_FILENO, b"\n");
+    let from = os::open_read(name);
+    if from < 0 {
+        return;
+    }
+    carding::run(from, STDOUT_FILENO);
+    libc::close(from);
+}

@@ -3,5 +3,5 @@ use libc::STDIN_FILENO;
 use libc::STDOUT_FILENO;
 
 fn main() {
-    carding::run(STDIN_FILENO, STDOUT_FILENO);
+    stream::list_sheet(STDIN_FILENO, STDOUT_FILENO);
 }

@@ -16,6 +16,6 @@ fn list(name: &[u8]) {
     if from < 0 {
         return;
     }
-    carding::run(from, STDOUT_FILENO);
+    stream::list_sheet(from, STDOUT_FILENO);
     libc::close(from);
 }

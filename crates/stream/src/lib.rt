@@ -9,7 +9,7 @@ ghost use Rattle.document.specs.Short.{cardOf};
 use code::card::card;
 use document::types::Reply;
 
-pub fn run(from: i32, to: i32) {
+pub fn list_sheet(from: i32, to: i32) {
     let mut input = [0u8; 75];
     let mut out = [0u8; 1024];
     let size = io::read_full(from, &mut input);

@@ -1,4 +1,4 @@
--- `carding::card_of` meets its contract: the part handed on is as long as it says, and of a longer stream no more is needed.
+-- `stream::card_of` meets its contract: the part handed on is as long as it says, and of a longer stream no more is needed.
 use mathlib.Core.Path.{sym, ap, _∙_}
 use mathlib.Core.List.{List}
 use Prim.Native.Nat.{ℕ}
@@ -7,11 +7,11 @@ use lib.ListN.{length}
 use lib.Seq.{length-take-le}
 use borrow.Author.Needs.{needs}
 use Rattle.document.specs.Short.{cardOf}
-use Rattle.carding.proofs.Streams.{read-enough}
-use Rattle.carding.proofs.card_of.Statement.{statement}
-use Rattle.carding.proofs.card_of.Tie as tie
-use Rattle.carding.proofs.card_of.Reads as reads
-use Rattle.carding.proofs.card_of.Lts as lts
+use Rattle.stream.proofs.Streams.{read-enough}
+use Rattle.stream.proofs.card_of.Statement.{statement}
+use Rattle.stream.proofs.card_of.Tie as tie
+use Rattle.stream.proofs.card_of.Reads as reads
+use Rattle.stream.proofs.card_of.Lts as lts
 use Rattle.code.proofs.card.card.Reads as card-reads
 
 slice-aggregate-card : tie.Need-slice-aggregate-card

@@ -1,12 +1,12 @@
--- `carding::write_part` meets its contract: the part written is as long as it says.
+-- `stream::write_part` meets its contract: the part written is as long as it says.
 use native.Mathlib.Omega.{arith}
 use mathlib.Core.Path.{sym}
 use lib.Seq.{length-take-le}
 use borrow.Author.Needs.{needs}
-use Rattle.carding.proofs.write_part.Statement.{statement}
-use Rattle.carding.proofs.write_part.Tie as tie
-use Rattle.carding.proofs.write_part.Reads as reads
-use Rattle.carding.proofs.write_part.Lts as lts
+use Rattle.stream.proofs.write_part.Statement.{statement}
+use Rattle.stream.proofs.write_part.Tie as tie
+use Rattle.stream.proofs.write_part.Reads as reads
+use Rattle.stream.proofs.write_part.Lts as lts
 use Rattle.io.proofs.write_all.Reads as write-all-reads
 
 returns : tie.Need-returns

@@ -11,7 +11,7 @@
 use mathlib.Core.Path.{_≡_, refl}
 use mathlib.Core.Logic.{_≢_, _↔_, _⊎_}
 use mathlib.Core.List.{List, [], _∷_, _++_}
-use Prim.Native.Nat.{ℕ, _+_, _*_, _/_, _%_, _^_, _≤_, _<_}
+use Prim.Native.Nat.{ℕ, _+_, _-_, _*_, _/_, _%_, _^_, _≤_, _<_, _∣_}
 use lib.ListN.{length, getD, drop}
 use Rattle.field.specs.Mask.{coefficient}
 use Rattle.field.specs.Field.{orderOfTwo}
@@ -25,12 +25,13 @@ use Rattle.document.specs.Judge.{certificateConditions, dimensionOf, workingOf,
 use Rattle.document.specs.Entry.{generatorOf, radiusOf, wordOf}
 use Rattle.document.specs.Card.{refusedLine, acceptedLines}
 use Rattle.document.specs.Short.{stated, judgeOf, encodeOf, readOf, decodeOf, listing, cardOf}
-use Rattle.code.specs.Published.{Accepted, SheetRead, Word, Message, CodewordOf, InSet, ZeroAt, changes, Published, Rounded, WorkingIs}
-use Rattle.code.specs.Published.{Systematic, Decoded}
+use Rattle.codeword.proofs.Places.{mask-lt}
+use Rattle.code.specs.Published.{IsAccepted, SheetRead, Bytes, Word, Message, CodewordOf, InDefiningSet, ZeroAt, changes, Published, Rounded, WorkingIs}
+use Rattle.code.specs.Published.{Systematic, WordDecoded}
 use Rattle.code.specs.Table.{NoneNear, NoneNearSaid, NoCodewordSaid, sheetTurns, encodeTurns, readTurns, decodeTurns, cardTurns, Answered}
 use Rattle.code.proofs.Tried.{judge-answered, encode-answered, read-answered, decode-answered, card-answered}
 use Rattle.code.proofs.Refusing.{read-sheet-bytes, sheet-first, card-writes, text-refused-iff, text-listed-iff, thirteen-iff, fourteen-iff}
-use Rattle.code.proofs.Worded.{word-place, certificate-published, accepted-published, rounded-said, distance-said, working-said}
+use Rattle.code.proofs.Worded.{word-place, mask-word, word-one, degree-said, certificate-published, accepted-published, rounded-said, distance-said, working-said}
 use Rattle.code.proofs.Worded.{record-said, apart-said, multiple-said, zeros-said, encodes-said, reads-said, refused-said}
 use Rattle.code.proofs.Worded.{found-said, decoded-said, none-said}
 
@@ -40,6 +41,13 @@ module _ (sheet : List ℕ) where
 
   abbrev k : ℕ
   k = dimensionOf x
+
+  -- s, and d and t of the working certificate
+  abbrev s : ℕ
+  s = orderOfTwo (x .n)
+
+  abbrev d : ℕ
+  d = distance (workingCertificate x)
 
   abbrev t : ℕ
   t = radiusOf x
@@ -57,16 +65,16 @@ module _ (sheet : List ℕ) where
     -- card's only refusal is 11, before the sheet is judged
     pub card : (out : List ℕ) → Answered (cardTurns out) (cardOf sheet out) out
     -- every entry but card refuses with the sheet's refusal, if it has one
-    pub sheet-refusal : (input out : List ℕ) (r : ℕ) → 0 < r → judgeOf sheet ≡ refused r
+    pub sheet-refusal : (input out : List ℕ) (r : ℕ) → judgeOf sheet ≡ refused r
         → (encodeOf sheet input out ≡ (refused r, out)) × (readOf sheet input out ≡ (refused r, out))
         × (decodeOf sheet input out ≡ (refused r, out))
     -- card writes its text, returns the text's length, and leaves what stood after it
     pub card-text : (out : List ℕ) → length out ≡ 1024
         → cardOf sheet out ≡ (returned (length (listing sheet) ∷ []), listing sheet ++ drop (length (listing sheet)) out)
     -- the text is `refused r` exactly when judging refuses with r
-    pub card-refusal : (r : ℕ) → 0 < r → (listing sheet ≡ refusedLine r) ↔ (judgeOf sheet ≡ refused r)
+    pub card-refusal : (r : ℕ) → (listing sheet ≡ refusedLine r) ↔ (judgeOf sheet ≡ refused r)
     -- and the listing of the sheet exactly when it is accepted
-    pub card-listing : (listing sheet ≡ acceptedLines x) ↔ Accepted sheet
+    pub card-listing : (listing sheet ≡ acceptedLines x) ↔ IsAccepted sheet
     -- 13 says, whatever was handed over: the sheet is accepted, lengths and spare bits are right, and every codeword differs in more than
     -- t places
     pub thirteen : (word out : List ℕ) → (decodeOf sheet word out .0 .number ≡ 13) ↔ NoneNearSaid sheet word out
@@ -79,55 +87,61 @@ module _ (sheet : List ℕ) where
     pub word-places : (word : List ℕ) (i : ℕ) → i < x .n → coefficient i (wordOf x word) ≡ getD word (i / 8) 0 / 2 ^ (i % 8) % 2
     pub message-places : (message : List ℕ) (i : ℕ) → i < k
         → coefficient i (maskOf messageWeight k message) ≡ getD message (i / 8) 0 / 2 ^ (i % 8) % 2
+    -- words in bytes and masks of n places are the same
+    pub word-mask : (word : List ℕ) → wordOf x word < 2 ^ x .n
+    pub mask-word : (c : ℕ) → c < 2 ^ x .n → (word : List ℕ) × Word x word × Bytes word × (wordOf x word ≡ c)
+    pub word-one : (v w : List ℕ) → Word x v → Bytes v → Word x w → Bytes w → wordOf x v ≡ wordOf x w → v ≡ w
+    -- "s is the smallest number above 0 with n dividing 2^s - 1."
+    pub degree : IsAccepted sheet → (0 < s) × (x .n ∣ 2 ^ s - 1) × ((q : ℕ) → 0 < q → x .n ∣ 2 ^ q - 1 → s ≤ q)
     -- a word is a codeword ⟺ it is a multiple of the generator
-    pub multiple : Accepted sheet → (word : List ℕ) → CodewordOf x (wordOf x word) ↔ (generatorOf x ∣ₘ wordOf x word)
+    pub multiple : IsAccepted sheet → (word : List ℕ) → CodewordOf x (wordOf x word) ↔ (generatorOf x ∣ₘ wordOf x word)
     -- ⟺ it is 0 at α^i for every i in D
-    pub zeros : Accepted sheet → (word : List ℕ)
-        → CodewordOf x (wordOf x word) ↔ ((i : ℕ) → InSet (x .n) (x .representatives) i → ZeroAt x i (wordOf x word))
+    pub zeros : IsAccepted sheet → (word : List ℕ)
+        → CodewordOf x (wordOf x word) ↔ ((i : ℕ) → InDefiningSet (x .n) (x .representatives) i → ZeroAt x i (wordOf x word))
     -- each message is encoded into its systematic codeword, and reads back the same
-    pub encodes : Accepted sheet → (message out : List ℕ) → Message x message → length out ≡ (x .n + 7) / 8
+    pub encodes : IsAccepted sheet → (message out : List ℕ) → Message x message → Bytes message → length out ≡ (x .n + 7) / 8
         → (word : List ℕ) × (encodeOf sheet message out ≡ (returned (0 ∷ []), word)) × Systematic x message word
         × ((back : List ℕ) → length back ≡ (k + 7) / 8 → readOf sheet word back ≡ (returned (0 ∷ []), message))
     -- each codeword reads out as a message, which is encoded into it
-    pub reads : Accepted sheet → (word out : List ℕ) → Word x word → CodewordOf x (wordOf x word) → length out ≡ (k + 7) / 8
-        → (message : List ℕ) × Message x message × (readOf sheet word out ≡ (returned (0 ∷ []), message))
+    pub reads : IsAccepted sheet → (word out : List ℕ) → Word x word → Bytes word → CodewordOf x (wordOf x word)
+        → length out ≡ (k + 7) / 8
+        → (message : List ℕ) × Message x message × Bytes message × (readOf sheet word out ≡ (returned (0 ∷ []), message))
         × ((back : List ℕ) → length back ≡ (x .n + 7) / 8 → encodeOf sheet message back ≡ (returned (0 ∷ []), word))
     -- what is no codeword is refused with 14
-    pub no-codeword : Accepted sheet → (word out : List ℕ) → Word x word → ¬ CodewordOf x (wordOf x word) → length out ≡ (k + 7) / 8
+    pub no-codeword : IsAccepted sheet → (word out : List ℕ) → Word x word → ¬ CodewordOf x (wordOf x word) → length out ≡ (k + 7) / 8
         → readOf sheet word out ≡ (refused 14, out)
     -- for every sheet that draws none of 1 to 6: certificate i draws none of 7 to 10 ⟺ it meets the published conditions
-    pub certificate : Accepted sheet ⊎ (6 < judgeOf sheet .number) → (i : ℕ) → i < length (x .certificates)
+    pub certificate : IsAccepted sheet ⊎ (6 < judgeOf sheet .number) → (i : ℕ) → i < length (x .certificates)
         → (firstOf (certificateConditions 1023 (x .n) (x .representatives) (certificateAt x i)) ≡ 0)
         ↔ Published (x .n) (x .representatives) (certificateAt x i)
     -- and the sheet is accepted ⟺ all its certificates meet them
-    pub acceptance : Accepted sheet ⊎ (6 < judgeOf sheet .number)
-        → Accepted sheet ↔ ((i : ℕ) → i < length (x .certificates) → Published (x .n) (x .representatives) (certificateAt x i))
+    pub acceptance : IsAccepted sheet ⊎ (6 < judgeOf sheet .number)
+        → IsAccepted sheet ↔ ((i : ℕ) → i < length (x .certificates) → Published (x .n) (x .representatives) (certificateAt x i))
     -- every certificate of an accepted sheet yields the published d
-    pub yields : Accepted sheet → (i : ℕ) → i < length (x .certificates) → Rounded (certificateAt x i) (distance (certificateAt x i))
+    pub yields : IsAccepted sheet → (i : ℕ) → i < length (x .certificates) → Rounded (certificateAt x i) (distance (certificateAt x i))
     -- and different codewords differ in at least that many places
-    pub distances : Accepted sheet → (i : ℕ) → i < length (x .certificates) → (a b : ℕ) → CodewordOf x a → CodewordOf x b → a ≢ b
-        → distance (certificateAt x i) ≤ differences (x .n) a b
+    pub distances : IsAccepted sheet → (i : ℕ) → i < length (x .certificates) → (c c′ : ℕ) → CodewordOf x c → CodewordOf x c′ → c ≢ c′
+        → distance (certificateAt x i) ≤ differences (x .n) c c′
 
   -- ---- demand 3: for every accepted sheet, every word of the right length without spare bits, and every output of the right length
   pub record Demand3 : Type 0 where
     -- d and t are those of the working certificate, and judging returns them
-    pub working : Accepted sheet → WorkingIs x (workingOf x) (distance (workingCertificate x)) t
-    pub judged : Accepted sheet
+    pub working : IsAccepted sheet → WorkingIs x (workingOf x) d t
+    pub judged : IsAccepted sheet
         → judgeOf sheet
-        ≡ returned (x .n ∷ k ∷ orderOfTwo (x .n) ∷ workingOf x ∷ distance (workingCertificate x) ∷ t ∷ workingCertificate x .L ∷ [])
+        ≡ returned (x .n ∷ k ∷ s ∷ workingOf x ∷ d ∷ t ∷ certificateAt x (workingOf x) .L ∷ [])
     -- the number is 0 ⟺ some codeword differs in at most t places
-    pub found : Accepted sheet → (word out : List ℕ) → Word x word → length out ≡ (x .n + 7) / 8
+    pub found : IsAccepted sheet → (word out : List ℕ) → Word x word → length out ≡ (x .n + 7) / 8
         → (decodeOf sheet word out .0 .number ≡ 0) ↔ ((c : ℕ) × CodewordOf x c × (changes x word c ≤ t))
     -- then the buffer afterwards is a word without spare bits whose places are a codeword c that differs in at most t places, the value
     -- returned is the number of places in which c and the received word differ, and every other codeword differs in more than t places
-    pub decoded : Accepted sheet → (word out : List ℕ) → Word x word → length out ≡ (x .n + 7) / 8 → decodeOf sheet word out .0 .number ≡ 0
-        → Decoded x word (decodeOf sheet word out)
+    pub decoded : IsAccepted sheet → (word out : List ℕ) → Word x word → length out ≡ (x .n + 7) / 8 → decodeOf sheet word out .0 .number ≡ 0
+        → WordDecoded x word (decodeOf sheet word out)
     -- the number is 13 ⟺ every codeword differs in more than t places
-    pub none : Accepted sheet → (word out : List ℕ) → Word x word → length out ≡ (x .n + 7) / 8
+    pub none : IsAccepted sheet → (word out : List ℕ) → Word x word → length out ≡ (x .n + 7) / 8
         → (decodeOf sheet word out .0 .number ≡ 13) ↔ NoneNear x word
     -- any two different codewords differ in at least d places
-    pub apart : Accepted sheet → (a b : ℕ) → CodewordOf x a → CodewordOf x b → a ≢ b
-        → distance (workingCertificate x) ≤ differences (x .n) a b
+    pub apart : IsAccepted sheet → (c c′ : ℕ) → CodewordOf x c → CodewordOf x c′ → c ≢ c′ → d ≤ differences (x .n) c c′
 
 -- ---- they hold
 pub demand-1 : (sheet : List ℕ) → Demand1 sheet
@@ -151,6 +165,10 @@ unfolding wordWeight messageWeight
 demand-2 sheet = record {
   word-places = word-place wordWeight (stated sheet .n);
   message-places = word-place messageWeight (dimensionOf (stated sheet));
+  word-mask = mask-lt wordWeight (stated sheet .n);
+  mask-word = mask-word (stated sheet);
+  word-one = word-one (stated sheet);
+  degree = degree-said sheet;
   multiple = multiple-said sheet;
   zeros = zeros-said sheet;
   encodes = encodes-said sheet;

@@ -18,7 +18,7 @@ use Rattle.document.proofs.Sane.{settle-number}
 use Rattle.document.proofs.Chain.{Quiet, silent, passing, first-true, first-false}
 use Rattle.document.proofs.Reflect.{Says}
 use Rattle.code.specs.Turns.{Turns, FirstThatHolds, NoneHolds}
-use Rattle.code.specs.Table.{Answered}
+use Rattle.code.specs.Table.{lastRefusal, Answered}
 
 abbrev pub Said : ℕ → Conditions → Turns → Type 0
 Said top [] [] = Unit
@@ -106,13 +106,13 @@ unfolding settle
 settled-alone zero v w old h = absurd (omega arith)
 settled-alone (suc r) v w old h = (refl, refl)
 
-pub answered : (l : Conditions) (t : Turns) → Said 14 l t → (v w old : List ℕ) → Answered t (settle (firstOf l) v w old) old
+pub answered : (l : Conditions) (t : Turns) → Said lastRefusal l t → (v w old : List ℕ) → Answered t (settle (firstOf l) v w old) old
 answered l t s v w old =
     let e : settle (firstOf l) v w old .0 .number ≡ firstOf l = settle-number (firstOf l) v w old in
     record {
-      range = subst (λ (r : ℕ). r ≤ 14) (sym e) (said-le 14 l t s);
-      done = (λ q. said-none 14 l t s .0 (sym e ∙ q), λ n. e ∙ said-none 14 l t s .1 n);
-      refused = λ r p. (λ q. said-first 14 l t s r p .0 (sym e ∙ q), λ h. e ∙ said-first 14 l t s r p .1 h);
+      range = subst (λ (r : ℕ). r ≤ lastRefusal) (sym e) (said-le lastRefusal l t s);
+      done = (λ q. said-none lastRefusal l t s .0 (sym e ∙ q), λ n. e ∙ said-none lastRefusal l t s .1 n);
+      refused = λ r p. (λ q. said-first lastRefusal l t s r p .0 (sym e ∙ q), λ h. e ∙ said-first lastRefusal l t s r p .1 h);
       alone = settled-alone (firstOf l) v w old;
     }
 
@@ -122,5 +122,5 @@ unfolding settle
 judged-pair zero v = refl
 judged-pair (suc r) v = refl
 
-pub judged-answered : (l : Conditions) (t : Turns) → Said 14 l t → (v : List ℕ) → Answered t (settle (firstOf l) v [] [] .0, []) []
+pub judged-answered : (l : Conditions) (t : Turns) → Said lastRefusal l t → (v : List ℕ) → Answered t (settle (firstOf l) v [] [] .0, []) []
 judged-answered l t s v = subst (λ y. Answered t y []) (judged-pair (firstOf l) v) (answered l t s v [] [])

@@ -26,18 +26,17 @@ use Rattle.document.proofs.Reflect.{eqb-iff}
 use Rattle.document.proofs.CardIs.{refused-injective, accepted-other}
 use Rattle.certificate.proofs.Sheets as Sheets
 use Rattle.code.specs.Turns.{Turns, FirstThatHolds}
-use Rattle.code.specs.Published.{Accepted, CertificateRead, SheetRead, CodewordOf}
-use Rattle.code.specs.Table.{SpareBit, NoneNear, NoneNearSaid, NoCodewordSaid, decodeOwn, readOwn}
+use Rattle.code.specs.Published.{IsAccepted, CertificateRead, SheetRead, CodewordOf}
+use Rattle.code.specs.Table.{SpareBit, NoneNear, NoneNearSaid, NoCodewordSaid, decodeOwn, readOwn, lastRefusal}
 use Rattle.code.proofs.InTurn.{stable, said-none, said-first}
 use Rattle.code.proofs.Tried.{card-said, read-own, decode-own}
 
 -- ---- the text, by the number of the sheet's first condition
-text-accepted : (x : Stated) (r : ℕ) → 0 < r
-    → (listingFor 0 x ≡ refusedLine r) ↔ (settle 0 (recordOf x) [] [] .0 ≡ refused r)
-unfolding listingFor settle
-text-accepted x r p = (
+text-accepted : (x : Stated) (r : ℕ) → (listingFor 0 x ≡ refusedLine r) ↔ (settle 0 (recordOf x) [] [] .0 ≡ refused r)
+unfolding listingFor settle recordOf
+text-accepted x r = (
   λ e. absurd (accepted-other x r e),
-  λ e. let z : _≡_ {A = ℕ} 0 r = ap (λ (a : Answer). a .number) e in absurd (omega arith),
+  λ e. let z : _≡_ {A = ℕ} 7 0 = ap (λ (a : Answer). length (a .values)) e in absurd (omega arith),
 )
 
 text-refused : (x : Stated) (q r : ℕ) → (listingFor (suc q) x ≡ refusedLine r) ↔ (settle (suc q) (recordOf x) [] [] .0 ≡ refused r)
@@ -46,6 +45,12 @@ text-refused x q r = (
   λ e. ap refused (refused-injective (suc q) r e),
   λ e. ap (λ (a : Answer). refusedLine (a .number)) e,
 )
+
+-- what is returned has values, and a refusal none
+never-zero-at : (x : Stated) (q : ℕ) → ¬ (settle q (recordOf x) [] [] .0 ≡ refused 0)
+unfolding settle recordOf
+never-zero-at x zero e = let z : _≡_ {A = ℕ} 7 0 = ap (λ (a : Answer). length (a .values)) e in omega arith
+never-zero-at x (suc q) e = let z : suc q ≡ 0 = ap (λ (a : Answer). a .number) e in omega arith
 
 module _ (sheet : List ℕ) where
   abbrev x : Stated
@@ -77,10 +82,15 @@ module _ (sheet : List ℕ) where
   }
 
   -- ---- the sheet's refusal
-  pub sheet-first : (input out : List ℕ) (r : ℕ) → 0 < r → judgeOf sheet ≡ refused r
+  never-zero : ¬ (judgeOf sheet ≡ refused 0)
+  unfolding judgeEntry
+  never-zero = never-zero-at x (firstOf (refusalsOf sheet))
+
+  pub sheet-first : (input out : List ℕ) (r : ℕ) → judgeOf sheet ≡ refused r
       → (encodeOf sheet input out ≡ (refused r, out)) × (readOf sheet input out ≡ (refused r, out)) × (decodeOf sheet input out ≡ (refused r, out))
   unfolding encodeEntry readEntry decodeEntry
-  sheet-first input out r h e = (
+  sheet-first input out zero e = absurd (never-zero e)
+  sheet-first input out (suc q) e = let r : ℕ = suc q in let h : 0 < suc q = omega arith in (
     sym (entry-sheet (refusalsOf sheet) x (encodeConditions x input out) _ _ out r h (sym e)),
     sym (entry-sheet (refusalsOf sheet) x (readConditions x input out) _ _ out r h (sym e)),
     sym (entry-sheet (refusalsOf sheet) x (decodeConditions x input out) _ _ out r h (sym e)),
@@ -92,17 +102,17 @@ module _ (sheet : List ℕ) where
   unfolding cardEntry settle
   card-writes out e =
       ap (λ (r : ℕ). settle r (length (listing sheet) ∷ []) (listing sheet ++ drop (length (listing sheet)) out) out)
-      (said-none 14 (cardConditions 1024 out) _ (card-said out) .1 (λ n. n e, tt))
+      (said-none lastRefusal (cardConditions 1024 out) _ (card-said out) .1 (λ n. n e, tt))
 
-  pub text-refused-iff : (r : ℕ) → 0 < r → (listing sheet ≡ refusedLine r) ↔ (judgeOf sheet ≡ refused r)
+  pub text-refused-iff : (r : ℕ) → (listing sheet ≡ refusedLine r) ↔ (judgeOf sheet ≡ refused r)
   unfolding listingOf judgeEntry
-  text-refused-iff r p = go (firstOf (refusalsOf sheet))
+  text-refused-iff r = go (firstOf (refusalsOf sheet))
     where
       go : (q : ℕ) → (listingFor q x ≡ refusedLine r) ↔ (settle q (recordOf x) [] [] .0 ≡ refused r)
-      go zero = text-accepted x r p
+      go zero = text-accepted x r
       go (suc q) = text-refused x q r
 
-  pub text-listed-iff : (listing sheet ≡ acceptedLines x) ↔ Accepted sheet
+  pub text-listed-iff : (listing sheet ≡ acceptedLines x) ↔ IsAccepted sheet
   unfolding listingOf listingFor judgeEntry settle
   text-listed-iff = go (firstOf (refusalsOf sheet))
     where
@@ -122,10 +132,10 @@ module _ (sheet : List ℕ) where
       there zero q e = (q, sym (first-quiet own (quiet-of short sheet q)) ∙ e)
       there (suc k) q e = absurd (omega (arith, judge-le short sheet, q, first-keep (refusalsOf sheet) own k q, e))
 
-  is-accepted : firstOf (refusalsOf sheet) ≡ 0 → Accepted sheet
+  is-accepted : firstOf (refusalsOf sheet) ≡ 0 → IsAccepted sheet
   is-accepted e = judge-number short sheet ∙ e
 
-  accepted-is : Accepted sheet → firstOf (refusalsOf sheet) ≡ 0
+  accepted-is : IsAccepted sheet → firstOf (refusalsOf sheet) ≡ 0
   accepted-is e = sym (judge-number short sheet) ∙ e
 
   usable : firstOf (refusalsOf sheet) ≡ 0 → Sheets.Accepted x
@@ -135,7 +145,7 @@ module _ (sheet : List ℕ) where
   same {a} {b} n = stable (eqb-iff a b) n
 
   -- the row of the number is the only one that gives it
-  thirteen-rows : (word out : List ℕ) → Accepted sheet → FirstThatHolds (decodeOwn x word out) 13 → NoneNearSaid sheet word out
+  thirteen-rows : (word out : List ℕ) → IsAccepted sheet → FirstThatHolds (decodeOwn x word out) 13 → NoneNearSaid sheet word out
   thirteen-rows word out a (inl h) = absurd (omega (arith, h .0))
   thirteen-rows word out a (inr (n₁, inl h)) = absurd (omega (arith, h .0))
   thirteen-rows word out a (inr (n₁, inr (n₂, inl h))) = absurd (omega (arith, h .0))
@@ -143,7 +153,7 @@ module _ (sheet : List ℕ) where
       record { accepted = a; word-long = same n₁; out-long = same n₂; no-spare = n₃; none = h .1 }
   thirteen-rows word out a (inr (n₁, inr (n₂, inr (n₃, inr h)))) = absurd (h .1)
 
-  fourteen-rows : (word out : List ℕ) → Accepted sheet → FirstThatHolds (readOwn x word out) 14 → NoCodewordSaid sheet word out
+  fourteen-rows : (word out : List ℕ) → IsAccepted sheet → FirstThatHolds (readOwn x word out) 14 → NoCodewordSaid sheet word out
   fourteen-rows word out a (inl h) = absurd (omega (arith, h .0))
   fourteen-rows word out a (inr (n₁, inl h)) = absurd (omega (arith, h .0))
   fourteen-rows word out a (inr (n₁, inr (n₂, inl h))) = absurd (omega (arith, h .0))
@@ -159,11 +169,11 @@ module _ (sheet : List ℕ) where
       let e : decodeOf sheet word out .0 .number ≡ firstOf (refusalsOf sheet ++ l) = settle-number _ _ _ _ in
       let w = own-first l 13 (omega arith) in (
         λ q. (let z = w .0 (sym e ∙ q) in
-            thirteen-rows word out (is-accepted (z .0)) (said-first 14 l t (decode-own sheet word out (usable (z .0))) 13 (omega arith) .0 (z .1))),
+            thirteen-rows word out (is-accepted (z .0)) (said-first lastRefusal l t (decode-own sheet word out (usable (z .0))) 13 (omega arith) .0 (z .1))),
         λ s. (let z : firstOf (refusalsOf sheet) ≡ 0 = accepted-is (s .accepted) in
             e ∙ w .1 (
               z,
-              said-first 14 l t (decode-own sheet word out (usable z)) 13 (omega arith) .1
+              said-first lastRefusal l t (decode-own sheet word out (usable z)) 13 (omega arith) .1
                   (inr (λ n. n (s .word-long), inr (λ n. n (s .out-long), inr (s .no-spare, inl (refl, s .none))))),
             )),
       )
@@ -176,11 +186,11 @@ module _ (sheet : List ℕ) where
       let e : readOf sheet word out .0 .number ≡ firstOf (refusalsOf sheet ++ l) = settle-number _ _ _ _ in
       let w = own-first l 14 (omega arith) in (
         λ q. (let z = w .0 (sym e ∙ q) in
-            fourteen-rows word out (is-accepted (z .0)) (said-first 14 l t (read-own sheet word out) 14 (omega arith) .0 (z .1))),
+            fourteen-rows word out (is-accepted (z .0)) (said-first lastRefusal l t (read-own sheet word out) 14 (omega arith) .0 (z .1))),
         λ s. (let z : firstOf (refusalsOf sheet) ≡ 0 = accepted-is (s .accepted) in
             e ∙ w .1 (
               z,
-              said-first 14 l t (read-own sheet word out) 14 (omega arith) .1
+              said-first lastRefusal l t (read-own sheet word out) 14 (omega arith) .1
                   (inr (λ n. n (s .word-long), inr (λ n. n (s .out-long), inr (s .no-spare, inl (refl, s .none))))),
             )),
       )

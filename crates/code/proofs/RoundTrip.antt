@@ -37,22 +37,21 @@ use Rattle.document.proofs.Theory.{Length}
 use Rattle.document.proofs.Chain.{Quiet, first-quiet, first-keep}
 use Rattle.document.proofs.Acceptance.{judgeBy, accepted-iff, judge-number, judge-le}
 use Rattle.document.proofs.Demand2.{multiple-iff, defining-iff, representatives-iff, encode-is-codeword, encode-systematic, encode-checks, encode-lt, message-lt, codeword-is-encoding}
-use Rattle.codeword.proofs.Places.{Weights, word-weights, message-weights, mask-lt, mask-coefficient, for-le, spare-clear, bytes-length, bytes-place, bytes-lt, mask-of-bytes, bytes-of-mask}
+use Rattle.codeword.proofs.Places.{Weights, word-weights, message-weights, mask-lt, mask-coefficient, for-le, spare-clear, bytes-length, bytes-place, mask-of-bytes, bytes-of-mask}
 use Rattle.codeword.specs.Codewords.{Usable, RemainderTested}
 use Rattle.binary.specs.Bits.{Holds}
+use Rattle.code.specs.Published.{Bytes}
 use Rattle.code.proofs.Accepted.{usable}
 use Rattle.code.proofs.Entries.{encode-accepted, read-accepted, encode-done, read-none, read-done}
 
 -- places of n in bytes: as many as they take, and no spare bit
 pub record Placed (weight : ℕ → ℕ) (n : ℕ) (bytes : List ℕ) : Type 0 where
   pub long : length bytes ≡ bytesFor n
-  pub small : (i : ℕ) → getD bytes i 0 < 256
   pub clear : spare weight n bytes ≡ false
 
 pub placed-bytes : {w : ℕ → ℕ} (W : Weights w) (n c : ℕ) → c < 2 ^ n → Placed w n (bytesOf w n c)
 placed-bytes {w} W n c h = record {
   long = bytes-length w n c;
-  small = bytes-lt W n c;
   clear = spare-clear w n (bytesOf w n c) (λ i a b. bytes-place W n c i b ∙ coefficient-above h i a);
 }
 
@@ -189,33 +188,33 @@ module _ (kind : Kind) (sheet : List ℕ) where
         (record { is = ap (λ (y : ℕ). bytesOf messageWeight k (messageOf (n - k) (maskOf wordWeight y word))) (sym whole) }) .is x refl refl
         ∙ read-accepted refusals x word out quiet
 
-    pub message-back : {message : List ℕ} → Message message → messageIn (codewordOf message) ≡ message
+    pub message-back : {message : List ℕ} → Message message → Bytes message → messageIn (codewordOf message) ≡ message
     unfolding encodedWord
-    message-back {message} m =
+    message-back {message} m small =
         ap (bytesOf messageWeight k) (ap (messageOf (n - k)) (word-is message) ∙ systematic (maskOf messageWeight k message))
-        ∙ sym (bytes-of-mask message-weights k message (m .long) (m .small) (m .clear))
+        ∙ sym (bytes-of-mask message-weights k message (m .long) small (m .clear))
 
-    pub read-back : {message : List ℕ} (out : List ℕ) → Message message → length out ≡ bytesFor k
+    pub read-back : {message : List ℕ} (out : List ℕ) → Message message → Bytes message → length out ≡ bytesFor k
         → (returned (0 ∷ []), message) ≡ readEntry refusals x (codewordOf message) out
-    read-back {message} out m b =
-        ap (λ (x : List ℕ). (returned (0 ∷ []), x)) (sym (message-back m)) ∙ reads out (codeword-word message) b (codeword-is message)
+    read-back {message} out m small b =
+        ap (λ (x : List ℕ). (returned (0 ∷ []), x)) (sym (message-back m small)) ∙ reads out (codeword-word message) b (codeword-is message)
 
-    pub codewords-distinct : {a b : List ℕ} → Message a → Message b → codewordOf a ≡ codewordOf b → a ≡ b
-    codewords-distinct a b q = sym (message-back a) ∙ ap messageIn q ∙ message-back b
+    pub codewords-distinct : {a b : List ℕ} → Message a → Bytes a → Message b → Bytes b → codewordOf a ≡ codewordOf b → a ≡ b
+    codewords-distinct a v b w q = sym (message-back a v) ∙ ap messageIn q ∙ message-back b w
 
     -- ---- and back
     pub message-message : (word : List ℕ) → Message (messageIn word)
     message-message word =
         placed-bytes message-weights k (messageOf (n - k) (wordOf x word)) (message-lt-k (wordOf x word) (mask-lt wordWeight n word))
 
-    pub encode-back : {word : List ℕ} → Word word → isCodeword (n - k) g (wordOf x word) ≡ true → codewordOf (messageIn word) ≡ word
+    pub encode-back : {word : List ℕ} → Word word → Bytes word → isCodeword (n - k) g (wordOf x word) ≡ true → codewordOf (messageIn word) ≡ word
     unfolding encodedWord
-    encode-back {word} w c =
+    encode-back {word} w small c =
         let m : ℕ = messageOf (n - k) (wordOf x word) in
         ap (λ (x : ℕ). bytesOf wordWeight n (encodeMask (n - k) g x))
         (mask-of-bytes message-weights k m (message-lt-k (wordOf x word) (mask-lt wordWeight n word)))
         ∙ ap (bytesOf wordWeight n) (back (wordOf x word) c)
-        ∙ sym (bytes-of-mask word-weights n word (w .long) (w .small) (w .clear))
+        ∙ sym (bytes-of-mask word-weights n word (w .long) small (w .clear))
 
     pub none-refused : {word : List ℕ} (out : List ℕ) → Word word → length out ≡ bytesFor k → isCodeword (n - k) g (wordOf x word) ≡ false
         → (refused 14, out) ≡ readEntry refusals x word out

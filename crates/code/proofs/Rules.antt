@@ -31,8 +31,8 @@ use Rattle.document.specs.Certificate.{rule1, rule2, rule3, rule4, distance}
 use Rattle.document.specs.Judge.{certificateConditions}
 use Rattle.document.proofs.Reflect.{Says, not-iff, eqb-iff, or-of}
 use Rattle.document.proofs.Meaning.{rule1-iff, set-iff, distance-least}
-use Rattle.code.specs.Published.{HasDegree, Rule1, Rule2, Rule3, Rule4, Published, InSet, Rounded}
-use Rattle.code.specs.Table.{certificateTurns}
+use Rattle.code.specs.Published.{HasDegree, Rule1, Rule2, Rule3, Rule4, Published, InDefiningSet, Rounded}
+use Rattle.code.specs.Table.{certificateTurns, lastRefusal}
 use Rattle.code.proofs.InTurn.{Said, stable, said-none, said-append}
 
 not-said : {b : Bool} {P : Type 0} → Says b P → Says (not b) (¬ P)
@@ -56,35 +56,35 @@ rule1-said n c = Iff·trans (rule1-iff 1023 n c) (
   λ w.
       let h-pos : 0 < c .h = let q = w .7 in omega arith in
       record {
-        b = w .0;
-        z = (w .1, w .2);
+        b-below = w .0;
+        z-range = (w .1, w .2);
         z-coprime = w .3;
         u = degree (c .f);
         u-is = degree-has (odd-pos (c .f) (odd-of (c .f) (w .6)));
         u-range = (w .4, w .5);
         constant = w .6;
-        h = w .7;
+        h-nonzero = w .7;
         v = degree (c .h);
         v-is = degree-has h-pos;
         v-range = w .8;
-        L = (w .9, w .10);
-        zero = w .11;
+        L-range = (w .9, w .10);
+        zero-byte = w .11;
       },
   λ r.
       let eu : degree (c .f) ≡ r .u = has-degree (r .u-is) in
       let ev : degree (c .h) ≡ r .v = has-degree (r .v-is) in (
-        r .b,
-        r .z .0,
-        r .z .1,
+        r .b-below,
+        r .z-range .0,
+        r .z-range .1,
         r .z-coprime,
         subst (λ (x : ℕ). 1 ≤ x) (sym eu) (r .u-range .0),
         subst (λ (x : ℕ). x ≤ 8) (sym eu) (r .u-range .1),
         r .constant,
-        r .h,
+        r .h-nonzero,
         omega (arith, r .v-range),
-        r .L .0,
-        r .L .1,
-        r .zero,
+        r .L-range .0,
+        r .L-range .1,
+        r .zero-byte,
       ),
 )
 
@@ -130,7 +130,7 @@ module _ {n : ℕ} {c : Certificate} (r : Rule1 n c) where
     place : ℕ → ℕ
     place j = (c .b + j * c .z) % n
 
-    covered-said : (j : ℕ) → Says (eqb (term j) 0 || inSet n reps (place j)) ((term j ≡ 0) ⊎ InSet n reps (place j))
+    covered-said : (j : ℕ) → Says (eqb (term j) 0 || inSet n reps (place j)) ((term j ≡ 0) ⊎ InDefiningSet n reps (place j))
     covered-said j = or-of (eqb-iff (term j) 0) (set-iff o reps (place j))
 
     -- the series is the one that f times makes h
@@ -142,19 +142,19 @@ module _ {n : ℕ} {c : Certificate} (r : Rule1 n c) where
         two = λ j. digit-lt (register (c .f) (c .h) j);
         series = series-product (c .f) (c .h) f-odd;
         covered = λ j l.
-            subst (λ (x : ℕ). (x ≡ 0) ⊎ InSet n reps (place j)) (terms-at (c .f) (c .h) f-odd (c .L) j l)
+            subst (λ (x : ℕ). (x ≡ 0) ⊎ InDefiningSet n reps (place j)) (terms-at (c .f) (c .h) f-odd (c .L) j l)
             (covered-said j .0 (every-at (λ j. eqb (term j) 0 || inSet n reps (place j)) (c .L) e j l));
       },
       λ q. every-of (λ j. eqb (term j) 0 || inSet n reps (place j)) (c .L)
           (λ j l. covered-said j .1
-          (subst (λ (x : ℕ). (x ≡ 0) ⊎ InSet n reps (place j))
+          (subst (λ (x : ℕ). (x ≡ 0) ⊎ InDefiningSet n reps (place j))
           (series-unique (c .f) (c .h) f-odd (q .a) (q .two) (q .series) j ∙ sym (terms-at (c .f) (c .h) f-odd (c .L) j l))
           (q .covered j l))),
     )
 
 -- ---- conditions 7 to 10
 module _ {n : ℕ} (o : OddLength n) (reps : List ℕ) where
-  pub certificate-said : (c : Certificate) → Said 14 (certificateConditions 1023 n reps c) (certificateTurns n reps c)
+  pub certificate-said : (c : Certificate) → Said lastRefusal (certificateConditions 1023 n reps c) (certificateTurns n reps c)
   unfolding certificateConditions
   certificate-said c = (
     omega arith,
@@ -177,17 +177,17 @@ module _ {n : ℕ} (o : OddLength n) (reps : List ℕ) where
   )
 
   pub certificates-said : (l : List Certificate)
-      → Said 14 (flatMap (certificateConditions 1023 n reps) l) (flatMap (certificateTurns n reps) l)
+      → Said lastRefusal (flatMap (certificateConditions 1023 n reps) l) (flatMap (certificateTurns n reps) l)
   unfolding flatMap
   certificates-said [] = tt
   certificates-said (c ∷ l) =
-      said-append 14 (certificateConditions 1023 n reps c) (certificateTurns n reps c)
+      said-append lastRefusal (certificateConditions 1023 n reps c) (certificateTurns n reps c)
       (flatMap (certificateConditions 1023 n reps) l) (flatMap (certificateTurns n reps) l) (certificate-said c)
       (λ none. certificates-said l)
 
   pub published-iff : (c : Certificate) → (firstOf (certificateConditions 1023 n reps c) ≡ 0) ↔ Published n reps c
   published-iff c =
-      Iff·trans (said-none 14 (certificateConditions 1023 n reps c) (certificateTurns n reps c) (certificate-said c)) (
+      Iff·trans (said-none lastRefusal (certificateConditions 1023 n reps c) (certificateTurns n reps c) (certificate-said c)) (
         λ h.
             let r : Rule1 n c = stable (rule1-said n c) (h .0) in
             record {

@@ -30,19 +30,19 @@ use Rattle.document.proofs.Meaning.{length-iff, code-length-iff, header-iff, re
 use Rattle.certificate.proofs.Sheets as Sheets
 use Rattle.code.specs.Turns.{Turns, NoneHolds}
 use Rattle.code.specs.Published.{CodewordOf, changes}
-use Rattle.code.specs.Table.{CodeLength, WrongLength, SpareBit, NoneNear, headTurns, sheetTurns, encodeOwn, encodeTurns}
-use Rattle.code.specs.Table.{readOwn, readTurns, decodeOwn, decodeTurns, cardTurns, Answered}
+use Rattle.code.specs.Table.{WrongCodeLength, WrongBufferLength, SpareBit, NoneNear, headTurns, sheetTurns, encodeOwn, encodeTurns}
+use Rattle.code.specs.Table.{readOwn, readTurns, decodeOwn, decodeTurns, cardTurns, lastRefusal, Answered}
 use Rattle.code.proofs.InTurn.{Said, said-none, said-append, answered, judged-answered}
 use Rattle.code.proofs.Rules.{certificates-said}
 
-pub odd-length : {n : ℕ} → ¬ CodeLength n → OddLength n
+pub odd-length : {n : ℕ} → ¬ WrongCodeLength n → OddLength n
 odd-length {n} h = record {
   least = elim (decLt n 3) [ yes l ↦ absurd (h (inr (inl l))) | no l ↦ omega arith ];
   most = elim (decLt 127 n) [ yes l ↦ absurd (h (inr (inr l))) | no l ↦ omega arith ];
   odd = (let e : n % 2 ≢ 0 = λ q. h (inl q) in omega arith);
 }
 
-pub card-said : (out : List ℕ) → Said 14 (cardConditions 1024 out) (cardTurns out)
+pub card-said : (out : List ℕ) → Said lastRefusal (cardConditions 1024 out) (cardTurns out)
 unfolding cardConditions
 card-said out = (omega arith, omega arith, refl, not-eq-iff (length out) 1024, λ n. tt)
 
@@ -89,20 +89,20 @@ module _ (sheet : List ℕ) where
     ),
   )
 
-  pub sheet-said : Said 14 (refusalsOf sheet) (sheetTurns sheet)
+  pub sheet-said : Said lastRefusal (refusalsOf sheet) (sheetTurns sheet)
   unfolding judgeConditions
   sheet-said =
-      said-append 14 (sheetConditions short sheet) (headTurns sheet) _ _ (head-said 14 (omega arith))
+      said-append lastRefusal (sheetConditions short sheet) (headTurns sheet) _ _ (head-said lastRefusal (omega arith))
       (λ none. certificates-said (odd-length (none .1 .0)) (x .representatives) (x .certificates))
 
   pub accepted-of : NoneHolds (sheetTurns sheet) → firstOf (refusalsOf sheet) ≡ 0
-  accepted-of none = said-none 14 (refusalsOf sheet) (sheetTurns sheet) sheet-said .1 none
+  accepted-of none = said-none lastRefusal (refusalsOf sheet) (sheetTurns sheet) sheet-said .1 none
 
   usable : NoneHolds (sheetTurns sheet) → Sheets.Accepted x
   usable none = Sheets.accepted short (omega arith) sheet (accepted-of none)
 
   -- ---- 11 to 14
-  size-said : (places : ℕ) (buffer : List ℕ) → Says (not (eqb (length buffer) (bytesFor places))) (WrongLength places buffer)
+  size-said : (places : ℕ) (buffer : List ℕ) → Says (not (eqb (length buffer) (bytesFor places))) (WrongBufferLength places buffer)
   unfolding bytesFor
   size-said places buffer = not-eq-iff (length buffer) ((places + 7) / 8)
 
@@ -130,7 +130,7 @@ module _ (sheet : List ℕ) where
 
   -- ---- the entries
   module _ (input out : List ℕ) where
-    encode-own : Said 14 (encodeConditions x input out) (encodeOwn x input out)
+    encode-own : Said lastRefusal (encodeConditions x input out) (encodeOwn x input out)
     unfolding encodeConditions
     encode-own = (
       omega arith,
@@ -146,7 +146,7 @@ module _ (sheet : List ℕ) where
       ),
     )
 
-    pub read-own : Said 14 (readConditions x input out) (readOwn x input out)
+    pub read-own : Said lastRefusal (readConditions x input out) (readOwn x input out)
     unfolding readConditions
     read-own = (
       omega arith,
@@ -174,7 +174,7 @@ module _ (sheet : List ℕ) where
       ),
     )
 
-    pub decode-own : Sheets.Accepted x → Said 14 (decodeConditions x input out) (decodeOwn x input out)
+    pub decode-own : Sheets.Accepted x → Said lastRefusal (decodeConditions x input out) (decodeOwn x input out)
     unfolding decodeConditions
     decode-own a = (
       omega arith,
@@ -201,19 +201,19 @@ module _ (sheet : List ℕ) where
     unfolding encodeEntry
     encode-answered =
         answered (refusalsOf sheet ++ encodeConditions x input out) (encodeTurns sheet input out)
-        (said-append 14 (refusalsOf sheet) (sheetTurns sheet) _ _ sheet-said (λ none. encode-own)) _ _ out
+        (said-append lastRefusal (refusalsOf sheet) (sheetTurns sheet) _ _ sheet-said (λ none. encode-own)) _ _ out
 
     pub read-answered : Answered (readTurns sheet input out) (readOf sheet input out) out
     unfolding readEntry
     read-answered =
         answered (refusalsOf sheet ++ readConditions x input out) (readTurns sheet input out)
-        (said-append 14 (refusalsOf sheet) (sheetTurns sheet) _ _ sheet-said (λ none. read-own)) _ _ out
+        (said-append lastRefusal (refusalsOf sheet) (sheetTurns sheet) _ _ sheet-said (λ none. read-own)) _ _ out
 
     pub decode-answered : Answered (decodeTurns sheet input out) (decodeOf sheet input out) out
     unfolding decodeEntry
     decode-answered =
         answered (refusalsOf sheet ++ decodeConditions x input out) (decodeTurns sheet input out)
-        (said-append 14 (refusalsOf sheet) (sheetTurns sheet) _ _ sheet-said (λ none. decode-own (usable none))) _ _ out
+        (said-append lastRefusal (refusalsOf sheet) (sheetTurns sheet) _ _ sheet-said (λ none. decode-own (usable none))) _ _ out
 
   pub judge-answered : Answered (sheetTurns sheet) (judgeOf sheet, []) []
   unfolding judgeEntry

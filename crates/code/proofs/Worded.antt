@@ -1,6 +1,7 @@
 -- Demands 2 and 3 in the words of specs/Published.antt: for every sheet of document 01's kind.
 --
 --   places-there, places-back      places in bytes, by a test for spare bits and without
+--   mask-word, word-one      words and masks of n places
 --   multiple-said, zeros-said      what a codeword is
 --   encodes-said, reads-said, refused-said      encoding and reading out
 --   draws-none               a sheet that draws none of 1 to 6
@@ -11,7 +12,8 @@ use mathlib.Core.Path.{_≡_, refl, sym, ap, _∙_, subst}
 use mathlib.Core.Logic.{_≢_, _↔_, _⊎_, inl, inr, Iff·trans, Iff·symm}
 use mathlib.Core.Bool.{Bool, true, false}
 use mathlib.Core.List.{List, [], _∷_}
-use Prim.Native.Nat.{ℕ, zero, suc, _+_, _-_, _*_, _/_, _%_, _^_, _≤_, _<_}
+use Prim.Native.Nat.{ℕ, zero, suc, _+_, _-_, _*_, _/_, _%_, _^_, _≤_, _<_, _∣_}
+use native.Mathlib.Nat.{mod-eq-zero-of-dvd}
 use native.Mathlib.Decide.{decLt, ℕ-discrete}
 use native.Mathlib.Omega.{arith}
 use lib.ListN.{length, getD}
@@ -19,24 +21,25 @@ use Rattle.field.specs.Mask.{coefficient}
 use Rattle.field.specs.Field.{OddLength, orderOfTwo}
 use Rattle.field.proofs.Search.{true-ne-false}
 use Rattle.field.proofs.Xor.{digit-lt}
+use Rattle.field.proofs.OrderOfTwo.{order-pos, order-divides, order-least}
 use Rattle.cyclic.proofs.Division.{_∣ₘ_}
 use Rattle.document.specs.Answer.{Answer, returned, refused, firstOf}
 use Rattle.document.specs.Layout.{wordWeight, messageWeight, bytesFor, place, maskOf, bytesOf, spare}
 use Rattle.document.specs.Sheet.{Stated, certificateAt}
-use Rattle.document.specs.Generator.{isCodeword, differences}
+use Rattle.document.specs.Generator.{isCodeword, messageOf, differences}
 use Rattle.document.specs.Certificate.{distance, radius}
 use Rattle.document.specs.Judge.{sheetConditions, certificateConditions, judgeConditions, dimensionOf, workingOf, workingCertificate, recordOf}
-use Rattle.document.specs.Entry.{generatorOf, radiusOf, wordOf}
+use Rattle.document.specs.Entry.{generatorOf, radiusOf, wordOf, encodedWord}
 use Rattle.document.specs.Short.{short, stated, refusalsOf, judgeOf, encodeOf, readOf, decodeOf}
 use Rattle.document.proofs.Chain.{first-keep}
 use Rattle.document.proofs.Acceptance.{Rules, judge-number, certificate-iff, accepted-rules, accepted-record}
 use Rattle.document.proofs.Meaning.{set-iff, spare-iff, radius-is, working-iff}
-use Rattle.codeword.proofs.Places.{word-weights, mask-lt, mask-coefficient, mask-of-bytes}
+use Rattle.codeword.proofs.Places.{word-weights, message-weights, mask-lt, mask-coefficient, bytes-lt, mask-of-bytes, bytes-of-mask}
 use Rattle.certificate.proofs.Sheets as Sheets
 use Rattle.certificate.proofs.Decoding as Decoding
 use Rattle.code.specs.Turns.{NoneHolds}
-use Rattle.code.specs.Published.{Accepted, Places, Word, Message, CodewordOf, InSet, ZeroAt, changes, Published, Rounded, WorkingIs}
-use Rattle.code.specs.Published.{Systematic, Decoded}
+use Rattle.code.specs.Published.{IsAccepted, Places, Bytes, Word, Message, CodewordOf, InDefiningSet, ZeroAt, changes, Published, Rounded, WorkingIs}
+use Rattle.code.specs.Published.{Systematic, WordDecoded}
 use Rattle.code.specs.Table.{NoneNear, headTurns}
 use Rattle.code.proofs.InTurn.{said-none, said-le, said-quiet}
 use Rattle.code.proofs.Rules.{published-iff, rounded-of}
@@ -47,7 +50,7 @@ use Rattle.code.proofs.RoundTrip as RoundTrip
 module _ {weight : ℕ → ℕ} {n : ℕ} {bytes : List ℕ} where
   pub places-there : Places weight n bytes → RoundTrip.Placed weight n bytes
   unfolding bytesFor
-  places-there p = record { long = p .long; small = p .small; clear = none (spare weight n bytes) refl }
+  places-there p = record { long = p .long; clear = none (spare weight n bytes) refl }
     where
       none : (b : Bool) → spare weight n bytes ≡ b → spare weight n bytes ≡ false
       none true e =
@@ -58,7 +61,6 @@ module _ {weight : ℕ → ℕ} {n : ℕ} {bytes : List ℕ} where
   pub places-back : RoundTrip.Placed weight n bytes → Places weight n bytes
   unfolding bytesFor place
   places-back p = record {
-    small = p .small;
     long = p .long;
     clear = λ i h l. elim (ℕ-discrete (place weight bytes i) 1) [
       | yes e ↦ absurd (true-ne-false (spare-iff weight n bytes .1 (i, h, l, e)) (p .clear))
@@ -71,12 +73,29 @@ pub word-place : (weight : ℕ → ℕ) (n : ℕ) (bytes : List ℕ) (i : ℕ) �
 unfolding place
 word-place weight n bytes i h = mask-coefficient weight n bytes i h
 
+-- words in bytes and masks of n places are the same
+module _ (x : Stated) where
+  pub mask-word : (c : ℕ) → c < 2 ^ x .n → (word : List ℕ) × Word x word × Bytes word × (wordOf x word ≡ c)
+  mask-word c h = (
+    bytesOf wordWeight (x .n) c,
+    places-back (RoundTrip.placed-bytes word-weights (x .n) c h),
+    bytes-lt word-weights (x .n) c,
+    mask-of-bytes word-weights (x .n) c h,
+  )
+
+  pub word-one : (v w : List ℕ) → Word x v → Bytes v → Word x w → Bytes w → wordOf x v ≡ wordOf x w → v ≡ w
+  word-one v w f b g d e =
+      let p = places-there f in
+      let q = places-there g in
+      bytes-of-mask word-weights (x .n) v (p .long) b (p .clear) ∙ ap (bytesOf wordWeight (x .n)) e
+      ∙ sym (bytes-of-mask word-weights (x .n) w (q .long) d (q .clear))
+
 module _ (sheet : List ℕ) where
   abbrev x : Stated
   x = stated sheet
 
   -- ---- a sheet that draws none of 1 to 6
-  pub draws-none : Accepted sheet ⊎ (6 < judgeOf sheet .number) → NoneHolds (headTurns sheet)
+  pub draws-none : IsAccepted sheet ⊎ (6 < judgeOf sheet .number) → NoneHolds (headTurns sheet)
   unfolding judgeConditions
   draws-none h = said-none 6 (sheetConditions short sheet) (headTurns sheet) (head-said sheet 6 (omega arith)) .0 (go (firstOf (sheetConditions short sheet)) refl)
     where
@@ -89,21 +108,21 @@ module _ (sheet : List ℕ) where
           elim h [ inl z ↦ absurd (omega (arith, k, z)) | inr z ↦ absurd (omega (arith, k, l, e, z)) ]
 
   -- ---- certificates
-  odd : Accepted sheet ⊎ (6 < judgeOf sheet .number) → OddLength (x .n)
+  odd : IsAccepted sheet ⊎ (6 < judgeOf sheet .number) → OddLength (x .n)
   odd h = odd-length (draws-none h .1 .0)
 
-  pub certificate-published : Accepted sheet ⊎ (6 < judgeOf sheet .number) → (i : ℕ)
+  pub certificate-published : IsAccepted sheet ⊎ (6 < judgeOf sheet .number) → (i : ℕ)
       → (firstOf (certificateConditions 1023 (x .n) (x .representatives) (certificateAt x i)) ≡ 0)
       ↔ Published (x .n) (x .representatives) (certificateAt x i)
   certificate-published h i = published-iff (odd h) (x .representatives) (certificateAt x i)
 
-  rules-published : Accepted sheet ⊎ (6 < judgeOf sheet .number) → (i : ℕ)
+  rules-published : IsAccepted sheet ⊎ (6 < judgeOf sheet .number) → (i : ℕ)
       → Rules 1023 (x .n) (x .representatives) (certificateAt x i) ↔ Published (x .n) (x .representatives) (certificateAt x i)
   rules-published h i =
       Iff·trans (Iff·symm (certificate-iff 1023 (x .n) (x .representatives) (certificateAt x i))) (certificate-published h i)
 
-  pub accepted-published : Accepted sheet ⊎ (6 < judgeOf sheet .number)
-      → Accepted sheet ↔ ((i : ℕ) → i < length (x .certificates) → Published (x .n) (x .representatives) (certificateAt x i))
+  pub accepted-published : IsAccepted sheet ⊎ (6 < judgeOf sheet .number)
+      → IsAccepted sheet ↔ ((i : ℕ) → i < length (x .certificates) → Published (x .n) (x .representatives) (certificateAt x i))
   accepted-published h =
       let w = accepted-rules short sheet in (
         λ e i l. rules-published h i .0 (w .0 e .1 i l),
@@ -114,7 +133,7 @@ module _ (sheet : List ℕ) where
       )
 
   -- ---- an accepted sheet
-  module _ (e : Accepted sheet) where
+  module _ (e : IsAccepted sheet) where
     a : Sheets.Accepted x
     a = Sheets.accepted short (omega arith) sheet (sym (judge-number short sheet) ∙ e)
 
@@ -124,6 +143,18 @@ module _ (sheet : List ℕ) where
     pub distance-said : (i : ℕ) → i < length (x .certificates) → (c d : ℕ) → CodewordOf x c → CodewordOf x d → c ≢ d
         → distance (certificateAt x i) ≤ differences (x .n) c d
     distance-said i l c d v w ne = Sheets.sheet-distance a i l (codeword-there sheet v) (codeword-there sheet w) ne
+
+    pub degree-said : (0 < orderOfTwo (x .n)) × (x .n ∣ 2 ^ orderOfTwo (x .n) - 1)
+        × ((q : ℕ) → 0 < q → x .n ∣ 2 ^ q - 1 → orderOfTwo (x .n) ≤ q)
+    degree-said =
+        let o : OddLength (x .n) = odd (inl e) in (
+          order-pos (x .n),
+          order-divides o,
+          λ q h d. elim (decLt q (orderOfTwo (x .n))) [
+            | yes l ↦ absurd (order-least o q h l (mod-eq-zero-of-dvd (x .n) d))
+            | no l ↦ omega arith
+          ],
+        )
 
     pub working-said : WorkingIs x (workingOf x) (distance (workingCertificate x)) (radiusOf x)
     unfolding workingOf workingCertificate radiusOf
@@ -140,8 +171,9 @@ module _ (sheet : List ℕ) where
 
     pub record-said :
         judgeOf sheet
-        ≡ returned (x .n ∷ dimensionOf x ∷ orderOfTwo (x .n) ∷ workingOf x ∷ distance (workingCertificate x) ∷ radiusOf x ∷ workingCertificate x .L ∷ [])
-    unfolding recordOf radiusOf
+        ≡ returned (x .n ∷ dimensionOf x ∷ orderOfTwo (x .n) ∷ workingOf x ∷ distance (workingCertificate x) ∷ radiusOf x
+        ∷ certificateAt x (workingOf x) .L ∷ [])
+    unfolding recordOf radiusOf workingCertificate
     record-said = accepted-record short sheet e
 
     pub apart-said : (c d : ℕ) → CodewordOf x c → CodewordOf x d → c ≢ d → distance (workingCertificate x) ≤ differences (x .n) c d
@@ -154,7 +186,7 @@ module _ (sheet : List ℕ) where
         Iff·trans (Iff·symm (codeword-said sheet word)) (RoundTrip.codeword-multiple short sheet (omega arith) e (wordOf x word))
 
     pub zeros-said : (word : List ℕ)
-        → CodewordOf x (wordOf x word) ↔ ((i : ℕ) → InSet (x .n) (x .representatives) i → ZeroAt x i (wordOf x word))
+        → CodewordOf x (wordOf x word) ↔ ((i : ℕ) → InDefiningSet (x .n) (x .representatives) i → ZeroAt x i (wordOf x word))
     zeros-said word =
         Iff·trans (Iff·symm (codeword-said sheet word))
         (Iff·trans (RoundTrip.codeword-set short sheet (omega arith) e (wordOf x word)) (
@@ -163,34 +195,36 @@ module _ (sheet : List ℕ) where
         ))
 
     -- ---- encoding and reading out
-    pub encodes-said : (message out : List ℕ) → Message x message → length out ≡ (x .n + 7) / 8
+    pub encodes-said : (message out : List ℕ) → Message x message → Bytes message → length out ≡ (x .n + 7) / 8
         → (word : List ℕ) × (encodeOf sheet message out ≡ (returned (0 ∷ []), word)) × Systematic x message word
         × ((back : List ℕ) → length back ≡ (dimensionOf x + 7) / 8 → readOf sheet word back ≡ (returned (0 ∷ []), message))
     unfolding bytesFor
-    encodes-said message out m l = (
+    encodes-said message out m small l = (
       RoundTrip.codewordOf short sheet message,
       sym (RoundTrip.encodes short sheet (omega arith) e out (places-there m) l),
       record {
         is-word = places-back (RoundTrip.codeword-word short sheet (omega arith) e message);
+        is-bytes = bytes-lt word-weights (x .n) (encodedWord x message);
         is-codeword = codeword-said sheet (RoundTrip.codewordOf short sheet message) .0 (RoundTrip.codeword-is short sheet (omega arith) e message);
         high = RoundTrip.codeword-place short sheet (omega arith) e message;
         low = RoundTrip.codeword-low short sheet (omega arith) e message;
       },
-      λ back k. sym (RoundTrip.read-back short sheet (omega arith) e back (places-there m) k),
+      λ back k. sym (RoundTrip.read-back short sheet (omega arith) e back (places-there m) small k),
     )
 
-    pub reads-said : (word out : List ℕ) → Word x word → CodewordOf x (wordOf x word) → length out ≡ (dimensionOf x + 7) / 8
-        → (message : List ℕ) × Message x message × (readOf sheet word out ≡ (returned (0 ∷ []), message))
+    pub reads-said : (word out : List ℕ) → Word x word → Bytes word → CodewordOf x (wordOf x word) → length out ≡ (dimensionOf x + 7) / 8
+        → (message : List ℕ) × Message x message × Bytes message × (readOf sheet word out ≡ (returned (0 ∷ []), message))
         × ((back : List ℕ) → length back ≡ (x .n + 7) / 8 → encodeOf sheet message back ≡ (returned (0 ∷ []), word))
     unfolding bytesFor
-    reads-said word out w c l =
+    reads-said word out w small c l =
         let t : isCodeword (x .n - dimensionOf x) (generatorOf x) (wordOf x word) ≡ true = codeword-said sheet word .1 c in
         let m = RoundTrip.message-message short sheet (omega arith) e word in (
           RoundTrip.messageIn short sheet word,
           places-back m,
+          bytes-lt message-weights (dimensionOf x) (messageOf (x .n - dimensionOf x) (wordOf x word)),
           sym (RoundTrip.reads short sheet (omega arith) e out (places-there w) l t),
           λ back k. sym (RoundTrip.encodes short sheet (omega arith) e back m k)
-              ∙ ap (λ (y : List ℕ). (returned (0 ∷ []), y)) (RoundTrip.encode-back short sheet (omega arith) e (places-there w) t),
+              ∙ ap (λ (y : List ℕ). (returned (0 ∷ []), y)) (RoundTrip.encode-back short sheet (omega arith) e (places-there w) small t),
         )
 
     pub refused-said : (word out : List ℕ) → Word x word → ¬ CodewordOf x (wordOf x word) → length out ≡ (dimensionOf x + 7) / 8
@@ -235,11 +269,12 @@ module _ (sheet : List ℕ) where
 
       -- what is written is c in bytes
       written : {c : ℕ} → CodewordOf x c → changes x word c ≤ radiusOf x
-          → Decoded x word (returned (changes x word c ∷ []), bytesOf wordWeight (x .n) c)
+          → WordDecoded x word (returned (changes x word c ∷ []), bytesOf wordWeight (x .n) c)
       written {c} v h =
           let q : wordOf x (bytesOf wordWeight (x .n) c) ≡ c = mask-of-bytes word-weights (x .n) c (v .small) in
           record {
             is-word = places-back (RoundTrip.placed-bytes word-weights (x .n) c (v .small));
+            is-bytes = bytes-lt word-weights (x .n) c;
             is-codeword = subst (CodewordOf x) (sym q) v;
             near = subst (λ (y : ℕ). changes x word y ≤ radiusOf x) (sym q) h;
             counted = ap (λ (y : ℕ). changes x word y ∷ []) (sym q);
@@ -250,9 +285,9 @@ module _ (sheet : List ℕ) where
             ];
           }
 
-      pub decoded-said : decodeOf sheet word out .0 .number ≡ 0 → Decoded x word (decodeOf sheet word out)
+      pub decoded-said : decodeOf sheet word out .0 .number ≡ 0 → WordDecoded x word (decodeOf sheet word out)
       decoded-said q =
           let f = found-said .0 q in
-          subst (Decoded x word)
+          subst (WordDecoded x word)
           (Decoding.decode-found short (omega arith) sheet e word out form (codeword-there sheet (f .1)) (f .2))
           (written (f .1) (f .2))

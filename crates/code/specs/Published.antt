@@ -1,13 +1,13 @@
 -- What document 01 publishes, in statements with no search in them: the words in which proofs/Demands.antt says the three demands.
 --
---   Accepted sheet                 judging refuses nothing
+--   IsAccepted sheet                 judging refuses nothing
 --   CertificateRead, SheetRead     what a sheet's bytes state
---   Places, Word, Message          words and messages in bytes
---   CodewordOf, InSet, ZeroAt, changes      codewords, D, a mask's value at α^i, and changed places
+--   Places, Bytes, Word, Message   words and messages in bytes
+--   CodewordOf, InDefiningSet, ZeroAt, changes      codewords, D, a mask's value at α^i, and changed places
 --   HasDegree, Coprime             the degree of a mask; no number above 1 divides both
 --   Rule1 .. Rule4, Published      the rules of a certificate
 --   Rounded, WorkingIs             d, and the working certificate with d and t
---   Systematic, Decoded            what encoding and decoding write
+--   Systematic, WordDecoded            what encoding and decoding write
 -- No contract of an entry cites this file.
 use mathlib.Core.Path.{_≡_}
 use mathlib.Core.Logic.{_≢_, _⊎_}
@@ -29,8 +29,8 @@ use Rattle.document.specs.Short.{byteAt, judgeOf}
 
 -- ---- the words
 -- "A sheet that draws none of 1 to 10 is accepted."
-abbrev pub Accepted : List ℕ → Type 0
-Accepted sheet = judgeOf sheet .number ≡ 0
+abbrev pub IsAccepted : List ℕ → Type 0
+IsAccepted sheet = judgeOf sheet .number ≡ 0
 
 -- what a sheet's bytes state: "A header of counts and offsets, 16-bit numbers low byte first .. Then R bytes: representatives .. Then C
 -- times 8 bytes: b, z, f (two bytes), h, a byte 0, L (two bytes)."
@@ -52,9 +52,12 @@ pub record SheetRead (sheet : List ℕ) (x : Stated) : Type 0 where
 -- "place i has weight 2^(i mod 8) in byte i div 8, for words and messages. A word has n/8 bytes and a message k/8, each rounded up.
 -- Spare bits of the last byte are 0."
 pub record Places (weight : ℕ → ℕ) (n : ℕ) (bytes : List ℕ) : Type 0 where
-  pub small : (i : ℕ) → getD bytes i 0 < 256
   pub long : length bytes ≡ (n + 7) / 8
   pub clear : (i : ℕ) → n ≤ i → i < (n + 7) / 8 * 8 → place weight bytes i ≡ 0
+
+-- a byte is below 256
+abbrev pub Bytes : List ℕ → Type 0
+Bytes l = (i : ℕ) → getD l i 0 < 256
 
 abbrev pub Word : Stated → List ℕ → Type 0
 Word x = Places wordWeight (x .n)
@@ -67,8 +70,8 @@ abbrev pub CodewordOf : Stated → ℕ → Type 0
 CodewordOf x c = Codeword (x .n) (x .representatives) c
 
 -- i is r·2^j mod n for a representative r and some j
-abbrev pub InSet : ℕ → List ℕ → ℕ → Type 0
-InSet n reps i = (m : ℕ) × (m < length reps) × ((j : ℕ) × (getD reps m 0 * 2 ^ j % n ≡ i))
+abbrev pub InDefiningSet : ℕ → List ℕ → ℕ → Type 0
+InDefiningSet n reps i = (m : ℕ) × (m < length reps) × ((j : ℕ) × (getD reps m 0 * 2 ^ j % n ≡ i))
 
 -- the value of the mask c at α^i is 0
 abbrev pub ZeroAt : Stated → ℕ → ℕ → Type 0
@@ -90,19 +93,19 @@ Coprime a b = (d : ℕ) → 1 < d → d ∣ a → ¬ (d ∣ b)
 -- "1. b is below n; z is 1 to n - 1 and coprime to n; u is 1 to 8 and f has constant term 1; h isn't 0 and v < u; L is 1 to 1,023; its
 -- zero byte on the sheet is 0"
 pub record Rule1 (n : ℕ) (c : Certificate) : Type 0 where
-  pub b : c .b < n
-  pub z : (1 ≤ c .z) × (c .z ≤ n - 1)
+  pub b-below : c .b < n
+  pub z-range : (1 ≤ c .z) × (c .z ≤ n - 1)
   pub z-coprime : Coprime (c .z) n
   pub u : ℕ
   pub u-is : HasDegree (c .f) u
   pub u-range : (1 ≤ u) × (u ≤ 8)
   pub constant : coefficient 0 (c .f) ≡ 1
-  pub h : c .h ≢ 0
+  pub h-nonzero : c .h ≢ 0
   pub v : ℕ
   pub v-is : HasDegree (c .h) v
   pub v-range : v < u
-  pub L : (1 ≤ c .L) × (c .L ≤ 1023)
-  pub zero : c .zeroField ≡ 0
+  pub L-range : (1 ≤ c .L) × (c .L ≤ 1023)
+  pub zero-byte : c .zeroField ≡ 0
 
 -- "2. h and f have no common factor": no mask of degree 1 or more, which is a number above 1, divides both
 abbrev pub Rule2 : Certificate → Type 0
@@ -122,7 +125,7 @@ pub record Rule4 (n : ℕ) (reps : List ℕ) (c : Certificate) : Type 0 where
   pub a : ℕ → ℕ
   pub two : (j : ℕ) → a j < 2
   pub series : (j : ℕ) → total (suc j) (λ i. coefficient (j - i) (c .f) * a i) % 2 ≡ coefficient j (c .h)
-  pub covered : (j : ℕ) → j < c .L → (a j ≡ 0) ⊎ InSet n reps ((c .b + j * c .z) % n)
+  pub covered : (j : ℕ) → j < c .L → (a j ≡ 0) ⊎ InDefiningSet n reps ((c .b + j * c .z) % n)
 
 pub record Published (n : ℕ) (reps : List ℕ) (c : Certificate) : Type 0 where
   pub rule1 : Rule1 n c
@@ -152,6 +155,7 @@ pub record WorkingIs (x : Stated) (w d t : ℕ) : Type 0 where
 -- the word that a message is encoded into
 pub record Systematic (x : Stated) (message word : List ℕ) : Type 0 where
   pub is-word : Word x word
+  pub is-bytes : Bytes word
   pub is-codeword : CodewordOf x (wordOf x word)
   -- "Message bit i stands in place n - k + i."
   pub high : (i : ℕ) → i < dimensionOf x → place wordWeight word (x .n - dimensionOf x + i) ≡ place messageWeight message i
@@ -160,8 +164,9 @@ pub record Systematic (x : Stated) (message word : List ℕ) : Type 0 where
       ≡ remainder (x .n - dimensionOf x) (generatorOf x) (maskOf messageWeight (dimensionOf x) message * 2 ^ (x .n - dimensionOf x))
 
 -- the buffer after decoding, and what is returned
-pub record Decoded (x : Stated) (word : List ℕ) (reply : Answer × List ℕ) : Type 0 where
+pub record WordDecoded (x : Stated) (word : List ℕ) (reply : Answer × List ℕ) : Type 0 where
   pub is-word : Word x (reply .1)
+  pub is-bytes : Bytes (reply .1)
   pub is-codeword : CodewordOf x (wordOf x (reply .1))
   pub near : changes x word (wordOf x (reply .1)) ≤ radiusOf x
   pub counted : reply .0 .values ≡ changes x word (wordOf x (reply .1)) ∷ []

@@ -1,11 +1,11 @@
 -- "Refused, by number": document 01's table as statements, and the order in which each entry tries them.
 --
---   SheetLength .. NoMessage       the conditions 1 to 6 of a sheet
---   SpareBit, NoneNear             12 and 13
+--   WrongSheetLength .. NoMessage      the conditions 1 to 6 of a sheet
+--   WrongBufferLength, SpareBit, NoneNear      11, 12 and 13; NoneNearSaid, NoCodewordSaid: what 13 and 14 say
 --   certificateTurns               7 to 10, of one certificate
 --   sheetTurns sheet               1 to 10
 --   encodeTurns, readTurns, decodeTurns, cardTurns      all that an entry tries
---   Answered turns reply before    what an entry answers by them, and what it leaves in the lent buffer
+--   lastRefusal; Answered turns reply before      what an entry answers by them, and what it leaves in the lent buffer
 -- No contract of an entry cites this file.
 use mathlib.Core.Path.{_≡_}
 use mathlib.Core.Logic.{_≢_, _↔_, _⊎_}
@@ -17,39 +17,40 @@ use Rattle.document.specs.Layout.{wordWeight, messageWeight, place}
 use Rattle.document.specs.Sheet.{Certificate, Stated}
 use Rattle.document.specs.Judge.{dimensionOf}
 use Rattle.document.specs.Entry.{radiusOf, wordOf}
-use Rattle.document.specs.Short.{byteAt, numberAt, stated}
+use Rattle.document.specs.Short.{byteAt, stated}
 use Rattle.code.specs.Turns.{Turns, FirstThatHolds, NoneHolds}
-use Rattle.code.specs.Published.{Accepted, CodewordOf, changes, Rule1, Rule2, Rule3, Rule4}
+use Rattle.code.specs.Published.{IsAccepted, CodewordOf, changes, Rule1, Rule2, Rule3, Rule4}
 
 -- 1: "under 10 or over 74 bytes, or bytes 0-1 differ from the true length"
-abbrev pub SheetLength : List ℕ → Type 0
-SheetLength sheet = (length sheet < 10) ⊎ ((74 < length sheet) ⊎ (numberAt sheet 0 ≢ length sheet))
+abbrev pub WrongSheetLength : List ℕ → Type 0
+WrongSheetLength sheet = (length sheet < 10) ⊎ ((74 < length sheet) ⊎ (byteAt sheet 0 + 256 * byteAt sheet 1 ≢ length sheet))
 
 -- 2: "n even, below 3 or above 127"
-abbrev pub CodeLength : ℕ → Type 0
-CodeLength n = (n % 2 ≡ 0) ⊎ ((n < 3) ⊎ (127 < n))
+abbrev pub WrongCodeLength : ℕ → Type 0
+WrongCodeLength n = (n % 2 ≡ 0) ⊎ ((n < 3) ⊎ (127 < n))
 
--- 3: "s above 12", s being "the smallest number above 0 with n dividing 2^s - 1": none up to 12 is one
-abbrev pub FieldDegree : ℕ → Type 0
-FieldDegree n = (s : ℕ) → 0 < s → s ≤ 12 → ¬ (n ∣ 2 ^ s - 1)
+-- 3: "s above 12", s being "the smallest number above 0 with n dividing 2^s - 1": no number up to 12 is such. An odd n, and 2 comes before,
+-- has one.
+abbrev pub WrongDegree : ℕ → Type 0
+WrongDegree n = (s : ℕ) → 0 < s → s ≤ 12 → ¬ (n ∣ 2 ^ s - 1)
 
 -- 4: "a count, offset, byte 7 or the length formula is wrong". R is "0 to 32", the offset of the representatives "always 10", C "1 to 4",
 -- the offset of the certificates "always 10 + R". "The length is 10 + R + 8·C."
-abbrev pub Header : List ℕ → Type 0
-Header sheet =
+abbrev pub WrongHeader : List ℕ → Type 0
+WrongHeader sheet =
     let R : ℕ = byteAt sheet 3 in
     let C : ℕ = byteAt sheet 6 in
     (32 < R)
-    ⊎ ((numberAt sheet 4 ≢ 10)
+    ⊎ ((byteAt sheet 4 + 256 * byteAt sheet 5 ≢ 10)
     ⊎ ((C < 1)
     ⊎ ((4 < C)
     ⊎ ((byteAt sheet 7 ≢ 0)
-    ⊎ ((numberAt sheet 8 ≢ 10 + R)
+    ⊎ ((byteAt sheet 8 + 256 * byteAt sheet 9 ≢ 10 + R)
     ⊎ (length sheet ≢ 10 + R + 8 * C))))))
 
 -- 5: "a representative isn't below n, smallest in its coset, or above the one before"
-abbrev pub Representative : ℕ → List ℕ → Type 0
-Representative n reps =
+abbrev pub WrongRepresentative : ℕ → List ℕ → Type 0
+WrongRepresentative n reps =
     (i : ℕ) × (i < length reps)
     × ((n ≤ getD reps i 0)
     ⊎ (((j : ℕ) × (getD reps i 0 * 2 ^ j % n < getD reps i 0))
@@ -76,11 +77,11 @@ NoneNear x word = (c : ℕ) → CodewordOf x c → radiusOf x < changes x word c
 abbrev pub headTurns : List ℕ → Turns
 headTurns sheet =
     let x : Stated = stated sheet in
-    (1, SheetLength sheet)
-    ∷ (2, CodeLength (x .n))
-    ∷ (3, FieldDegree (x .n))
-    ∷ (4, Header sheet)
-    ∷ (5, Representative (x .n) (x .representatives))
+    (1, WrongSheetLength sheet)
+    ∷ (2, WrongCodeLength (x .n))
+    ∷ (3, WrongDegree (x .n))
+    ∷ (4, WrongHeader sheet)
+    ∷ (5, WrongRepresentative (x .n) (x .representatives))
     ∷ (6, NoMessage x)
     ∷ []
 
@@ -90,30 +91,30 @@ sheetTurns sheet =
     headTurns sheet ++ flatMap (certificateTurns (x .n) (x .representatives)) (x .certificates)
 
 -- 11: "a message, word or output buffer hasn't its exact length"
-abbrev pub WrongLength : ℕ → List ℕ → Type 0
-WrongLength places buffer = length buffer ≢ (places + 7) / 8
+abbrev pub WrongBufferLength : ℕ → List ℕ → Type 0
+WrongBufferLength places buffer = length buffer ≢ (places + 7) / 8
 
 -- what each entry tries of its own, after the sheet's
 abbrev pub encodeOwn : Stated → List ℕ → List ℕ → Turns
 encodeOwn x message out =
-    (11, WrongLength (dimensionOf x) message)
-    ∷ (11, WrongLength (x .n) out)
+    (11, WrongBufferLength (dimensionOf x) message)
+    ∷ (11, WrongBufferLength (x .n) out)
     ∷ (12, SpareBit messageWeight (dimensionOf x) message)
     ∷ []
 
 -- 14: "reading out: the word is no codeword"
 abbrev pub readOwn : Stated → List ℕ → List ℕ → Turns
 readOwn x word out =
-    (11, WrongLength (x .n) word)
-    ∷ (11, WrongLength (dimensionOf x) out)
+    (11, WrongBufferLength (x .n) word)
+    ∷ (11, WrongBufferLength (dimensionOf x) out)
     ∷ (12, SpareBit wordWeight (x .n) word)
     ∷ (14, ¬ CodewordOf x (wordOf x word))
     ∷ []
 
 abbrev pub decodeOwn : Stated → List ℕ → List ℕ → Turns
 decodeOwn x word out =
-    (11, WrongLength (x .n) word)
-    ∷ (11, WrongLength (x .n) out)
+    (11, WrongBufferLength (x .n) word)
+    ∷ (11, WrongBufferLength (x .n) out)
     ∷ (12, SpareBit wordWeight (x .n) word)
     ∷ (13, NoneNear x word)
     ∷ []
@@ -129,14 +130,14 @@ decodeTurns sheet word out = sheetTurns sheet ++ decodeOwn (stated sheet) word o
 
 -- what 13 says, and 14, whatever was handed over
 pub record NoneNearSaid (sheet word out : List ℕ) : Type 0 where
-  pub accepted : Accepted sheet
+  pub accepted : IsAccepted sheet
   pub word-long : length word ≡ (stated sheet .n + 7) / 8
   pub out-long : length out ≡ (stated sheet .n + 7) / 8
   pub no-spare : ¬ SpareBit wordWeight (stated sheet .n) word
   pub none : NoneNear (stated sheet) word
 
 pub record NoCodewordSaid (sheet word out : List ℕ) : Type 0 where
-  pub accepted : Accepted sheet
+  pub accepted : IsAccepted sheet
   pub word-long : length word ≡ (stated sheet .n + 7) / 8
   pub out-long : length out ≡ (dimensionOf (stated sheet) + 7) / 8
   pub no-spare : ¬ SpareBit wordWeight (stated sheet .n) word
@@ -146,10 +147,14 @@ pub record NoCodewordSaid (sheet word out : List ℕ) : Type 0 where
 abbrev pub cardTurns : List ℕ → Turns
 cardTurns out = (11, length out ≢ 1024) ∷ []
 
+-- the last number of the table
+abbrev pub lastRefusal : ℕ
+lastRefusal = 14
+
 -- "A refusal returns its number alone and changes no lent byte. Each has one condition and is returned only then."
 pub record Answered (turns : Turns) (reply : Answer × List ℕ) (before : List ℕ) : Type 0 where
   -- the number is 0, or 1 to 14
-  pub range : reply .0 .number ≤ 14
+  pub range : reply .0 .number ≤ lastRefusal
   -- 0 exactly when no condition holds
   pub done : (reply .0 .number ≡ 0) ↔ NoneHolds turns
   -- r exactly when condition r holds and no earlier one does

@@ -1,7 +1,7 @@
 # Calls of decode, and what it is to answer, made without any of the product's code. tools/answers.py puts them together with those
 # of the other entries.
 #
-# A call hands over one word, and its answer is 'decode changed count buffer' or 'decode refused number buffer'; or it asks for all
+# A call hands over one word, and its answer is 'decode returned count buffer' or 'decode refused number buffer'; or it asks for all
 # words of a sheet's length, and the answer counts the replies and sums them up with the buffers. What is right is found with no
 # equation: every error pattern of at most t places is tried, or every codeword; where both are too many a word is made from a
 # codeword, so that the answer is known. Sheets are judged as in entry_answers.py.
@@ -265,7 +265,7 @@ def whole_sheets(draw):
 def in_answer(codeword, word, n):
     if codeword is None:
         return 'decode refused 13 ' + 'aa' * ((n + 7) // 8)
-    return 'decode changed %d %s' % ((codeword ^ word).bit_count(), in_bytes(codeword, n).hex())
+    return 'decode returned %d %s' % ((codeword ^ word).bit_count(), in_bytes(codeword, n).hex())
 
 
 def weights(code):

@@ -261,32 +261,32 @@ def calls(sheet):
     told = answer(sheet).split()
     yield 0, b'', 0, '\n'.join([' '.join(told)] + listing(sheet))
     if told[0] == 'refused':
-        yield 1, bytes(3), 2, 'encode %s aaaa' % told[1]
-        yield 2, bytes(2), 3, 'read %s aaaaaa' % told[1]
+        yield 1, bytes(3), 2, 'encode refused %s aaaa' % told[1]
+        yield 2, bytes(2), 3, 'read refused %s aaaaaa' % told[1]
         return
     n, zeros, _ = parts(sheet)
     k, g = n - len(zeros), generator(n, zeros)
     a, b = (k + 7) // 8, (n + 7) // 8
     for message in (0, 1, 2 ** k - 1, sum((37 * i + 5) % 256 << 8 * i for i in range(16)) % 2 ** k):
         word = encoded(message, g)
-        yield 1, in_bytes(message, k), b, 'encode 0 ' + in_bytes(word, n).hex()
-        yield 2, in_bytes(word, n), a, 'read 0 ' + in_bytes(message, k).hex()
+        yield 1, in_bytes(message, k), b, 'encode returned 0 ' + in_bytes(word, n).hex()
+        yield 2, in_bytes(word, n), a, 'read returned 0 ' + in_bytes(message, k).hex()
         for place in {0, 7 * k % n, n - 1}:
             wrong = word ^ 1 << place
             if remainder(wrong, g):
-                yield 2, in_bytes(wrong, n), a, 'read 14 ' + 'aa' * a
+                yield 2, in_bytes(wrong, n), a, 'read refused 14 ' + 'aa' * a
             else:
-                yield 2, in_bytes(wrong, n), a, 'read 0 ' + in_bytes(wrong >> len(zeros), k).hex()
+                yield 2, in_bytes(wrong, n), a, 'read returned 0 ' + in_bytes(wrong >> len(zeros), k).hex()
     if k % 8:
-        yield 1, in_bytes(message | 1 << k, k), b, 'encode 12 ' + 'aa' * b
-        yield 1, in_bytes(message | 1 << 8 * a - 1, k), b + 1, 'encode 11 ' + 'aa' * (b + 1)
-    yield 2, in_bytes(word | 1 << n, n), a, 'read 12 ' + 'aa' * a
-    yield 2, in_bytes(word | 1 << 8 * b - 1, n), a + 1, 'read 11 ' + 'aa' * (a + 1)
-    yield 1, in_bytes(message, k) + b'\0', b, 'encode 11 ' + 'aa' * b
-    yield 1, in_bytes(message, k), b - 1, 'encode 11 ' + 'aa' * (b - 1)
-    yield 1, b'', b, 'encode 11 ' + 'aa' * b
-    yield 2, in_bytes(word, n)[1:], a, 'read 11 ' + 'aa' * a
-    yield 2, in_bytes(word, n) + b'\0', a, 'read 11 ' + 'aa' * a
+        yield 1, in_bytes(message | 1 << k, k), b, 'encode refused 12 ' + 'aa' * b
+        yield 1, in_bytes(message | 1 << 8 * a - 1, k), b + 1, 'encode refused 11 ' + 'aa' * (b + 1)
+    yield 2, in_bytes(word | 1 << n, n), a, 'read refused 12 ' + 'aa' * a
+    yield 2, in_bytes(word | 1 << 8 * b - 1, n), a + 1, 'read refused 11 ' + 'aa' * (a + 1)
+    yield 1, in_bytes(message, k) + b'\0', b, 'encode refused 11 ' + 'aa' * b
+    yield 1, in_bytes(message, k), b - 1, 'encode refused 11 ' + 'aa' * (b - 1)
+    yield 1, b'', b, 'encode refused 11 ' + 'aa' * b
+    yield 2, in_bytes(word, n)[1:], a, 'read refused 11 ' + 'aa' * a
+    yield 2, in_bytes(word, n) + b'\0', a, 'read refused 11 ' + 'aa' * a
 
 
 SHEETS = list(known()) + list(drawn(400))

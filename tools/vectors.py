@@ -124,15 +124,15 @@ def entry_calls():
         yield code.sheet, 0, b'', 0, '\n'.join([answer(code.sheet)] + listing(code.sheet))
         for word in code.words:
             message = word >> n - k
-            yield code.sheet, 1, in_bytes(message, k), (n + 7) // 8, 'encode 0 ' + in_bytes(word, n).hex()
-            yield code.sheet, 2, in_bytes(word, n), (k + 7) // 8, 'read 0 ' + in_bytes(message, k).hex()
+            yield code.sheet, 1, in_bytes(message, k), (n + 7) // 8, 'encode returned 0 ' + in_bytes(word, n).hex()
+            yield code.sheet, 2, in_bytes(word, n), (k + 7) // 8, 'read returned 0 ' + in_bytes(message, k).hex()
         for word, right in code.received:
             if right is not None and word != right:
-                yield code.sheet, 2, in_bytes(word, n), (k + 7) // 8, 'read 14 ' + 'aa' * ((k + 7) // 8)
+                yield code.sheet, 2, in_bytes(word, n), (k + 7) // 8, 'read refused 14 ' + 'aa' * ((k + 7) // 8)
     for changed, number in refused():
         yield changed, 0, b'', 0, 'refused %s\nrefused %s' % (number, number)
-        yield changed, 1, bytes(2), 2, 'encode %s aaaa' % number
-        yield changed, 2, bytes(2), 2, 'read %s aaaa' % number
+        yield changed, 1, bytes(2), 2, 'encode refused %s aaaa' % number
+        yield changed, 2, bytes(2), 2, 'read refused %s aaaa' % number
 
 
 def decode_calls():
@@ -141,7 +141,7 @@ def decode_calls():
         for word, right in code.received:
             size = (n + 7) // 8
             if right is not None and (word ^ right).bit_count() <= t:
-                told = 'decode changed %d %s' % ((word ^ right).bit_count(), in_bytes(right, n).hex())
+                told = 'decode returned %d %s' % ((word ^ right).bit_count(), in_bytes(right, n).hex())
             else:
                 # IT++ failed, or GUAVA's nearest codeword is further than t
                 assert right is None or code.kind == 'cyclic'

@@ -1,12 +1,16 @@
 // Calls of the entries from standard input, and for each what it answers. A call is four bytes, its kind, the lengths of sheet and
 // input, and the length of the buffer lent or of the words; then sheet and input. Kinds: 0 judge and card, 1 encode, 2 read,
-// 3 decode, 4 decode with every word of a length. tools/answers.py makes the calls, and the same answers with none of this code.
+// 3 decode, 4 decode with every word of a length, 5 card with a buffer whose length is the input, two bytes. tools/answers.py makes
+// the calls, and the same answers with none of this code.
 
 // what lines are made of
 mod line;
 
 // lines about sheets
 mod sheets;
+
+// lines about card with a buffer of any length
+mod cards;
 
 // the line about one message or word
 mod words;
@@ -68,6 +72,10 @@ fn lines(kind: u8, sheet: &[u8], input: &[u8], length: usize) {
     }
     if kind == 4 {
         every::words_line(sheet, length);
+        return;
+    }
+    if kind == 5 {
+        cards::card_lines(sheet, input);
         return;
     }
     words::word_line(kind, sheet, input, length);

@@ -17,14 +17,14 @@ pub fn judge_line(sheet: &[u8]) {
 }
 
 pub fn card_lines(sheet: &[u8]) {
-    let mut out = [0u8; 1024];
+    let mut out = [170u8; 1024];
     match card(sheet, &mut out) {
         Reply::Done(size) => write_part(&out, size),
         Reply::Refused(r) => refused_line(r),
     }
 }
 
-fn write_part(text: &[u8], size: usize) {
+pub fn write_part(text: &[u8], size: usize) {
     if text.len() < size {
         return;
     }

@@ -33,28 +33,18 @@ fn reply_to(kind: u8, sheet: &[u8], input: &[u8], out: &mut [u8]) -> Reply {
     decode(sheet, input, out)
 }
 
+// What is returned may be the number of a refusal.
 fn reply_label(kind: u8, reply: Reply) {
     if kind == 1 {
-        number(b"encode ", reply_number(reply));
+        io::write_all(STDOUT_FILENO, b"encode");
     } else if kind == 2 {
-        number(b"read ", reply_number(reply));
+        io::write_all(STDOUT_FILENO, b"read");
     } else {
-        decode_label(reply);
+        io::write_all(STDOUT_FILENO, b"decode");
+    }
+    match reply {
+        Reply::Done(n) => number(b" returned ", n),
+        Reply::Refused(r) => number(b" refused ", refusal_number(r)),
     }
     io::write_all(STDOUT_FILENO, b" ");
-}
-
-// The number of changed places may be that of a refusal.
-fn decode_label(reply: Reply) {
-    match reply {
-        Reply::Done(n) => number(b"decode changed ", n),
-        Reply::Refused(r) => number(b"decode refused ", refusal_number(r)),
-    }
-}
-
-fn reply_number(reply: Reply) -> usize {
-    match reply {
-        Reply::Done(n) => n,
-        Reply::Refused(r) => refusal_number(r),
-    }
 }

@@ -1,0 +1,377 @@
+# A second reading of document 01, made from its text alone: judge, card, encode, read and decode as searches and sums, with none of
+# the product's code and none of entry_answers.py's. Polynomials over two elements are masks, as in the document.
+#
+# tools/boundary_answers.py answers its calls by it. tools/misreadings replaces single lines of it, each by a wrong reading: that is
+# why every condition stands in a line of its own, and why what comes first is told by tables.
+from functools import lru_cache
+from itertools import combinations
+from math import gcd
+
+MASKS = {2: 7, 3: 11, 4: 19, 5: 37, 6: 67, 7: 131, 8: 285, 9: 529, 10: 1033, 11: 2053, 12: 4179}
+
+
+def degree(mask):
+    # that of 0 is below all others
+    return mask.bit_length() - 1
+
+
+def times(a, b, modulus=0):
+    total = 0
+    for i in range(b.bit_length()):
+        if b >> i & 1:
+            total ^= a << i
+    return rest(total, modulus) if modulus else total
+
+
+def rest(a, b):
+    while b and degree(a) >= degree(b):
+        a ^= b << degree(a) - degree(b)
+    return a
+
+
+def common(a, b):
+    while b:
+        a, b = b, rest(a, b)
+    return a
+
+
+@lru_cache(None)
+def period(f):
+    # 0 where there is none
+    power = 1
+    for p in range(1, 2 ** (degree(f) + 1)):
+        power = rest(power << 1, f)
+        if power == 1:
+            return p
+    return 0
+
+
+def series(h, f, count):
+    # f times the series is h: each coefficient from those before it
+    a = []
+    for j in range(count):
+        a.append((h >> j) % 2 ^ sum(a[j - i] for i in range(1, min(j, degree(f)) + 1) if f >> i & 1) % 2)
+    return a
+
+
+@lru_cache(None)
+def smallest_s(n):
+    # 99 where it is above 20, or where there is none
+    for s in range(1, 21):
+        if n and (2 ** s - 1) % n == 0:
+            return s
+    return 99
+
+
+def coset(r, n):
+    return {r * 2 ** j % n for j in range(n)} if n else {r}
+
+
+# ---- the sheet
+def byte(sheet, place):
+    return sheet[place] if place < len(sheet) else 0
+
+
+def pair(sheet, place):
+    return byte(sheet, place) + 256 * byte(sheet, place + 1)
+
+
+def length_wrong(sheet):
+    if len(sheet) < 10:
+        return True
+    if len(sheet) > 74:
+        return True
+    return pair(sheet, 0) != len(sheet)
+
+
+def n_wrong(sheet):
+    n = byte(sheet, 2)
+    if n % 2 == 0:
+        return True
+    if n < 3:
+        return True
+    return n > 127
+
+
+def s_wrong(sheet):
+    return smallest_s(byte(sheet, 2)) > 12
+
+
+def header_wrong(sheet):
+    count, certificates = byte(sheet, 3), byte(sheet, 6)
+    if count > 32:
+        return True
+    if certificates < 1:
+        return True
+    if certificates > 4:
+        return True
+    if pair(sheet, 4) != 10:
+        return True
+    if byte(sheet, 7) != 0:
+        return True
+    if pair(sheet, 8) != 10 + count:
+        return True
+    return len(sheet) != 10 + count + 8 * certificates
+
+
+def representative_wrong(sheet):
+    n = byte(sheet, 2)
+    before = -1
+    for r in representatives_of(sheet):
+        if r >= n:
+            return True
+        if r != min(coset(r, n)):
+            return True
+        if r <= before:
+            return True
+        before = r
+    return False
+
+
+def message_empty(sheet):
+    return k_of(sheet) == 0
+
+
+def representatives_of(sheet):
+    return sheet[10:10 + byte(sheet, 3)]
+
+
+@lru_cache(None)
+def defining_set(sheet):
+    members = set()
+    for r in representatives_of(sheet):
+        members |= coset(r, byte(sheet, 2))
+    return members
+
+
+def k_of(sheet):
+    return byte(sheet, 2) - len(defining_set(sheet))
+
+
+# ---- the certificate
+class Certificate:
+    def __init__(self, c):
+        self.b, self.z, self.f, self.h = byte(c, 0), byte(c, 1), pair(c, 2), byte(c, 4)
+        self.zero, self.terms = byte(c, 5), pair(c, 6)
+        self.u, self.v = degree(self.f), degree(self.h)
+        self.d = -((self.v - self.terms) // self.u) + 1 if self.u > 0 else 0
+        self.t = (self.d - 1) // 2
+
+
+def certificates_of(sheet):
+    start = 10 + byte(sheet, 3)
+    return [Certificate(sheet[start + 8 * i:start + 8 * i + 8]) for i in range(byte(sheet, 6))]
+
+
+def rule_1_fails(n, members, c):
+    if c.b >= n:
+        return True
+    if c.z < 1:
+        return True
+    if c.z > n - 1:
+        return True
+    if gcd(c.z, n) != 1:
+        return True
+    if c.u < 1:
+        return True
+    if c.u > 8:
+        return True
+    if c.f % 2 == 0:
+        return True
+    if c.h == 0:
+        return True
+    if c.v >= c.u:
+        return True
+    if c.terms < 1:
+        return True
+    if c.terms > 1023:
+        return True
+    return c.zero != 0
+
+
+def rule_2_fails(n, members, c):
+    return common(c.f, c.h) != 1
+
+
+def rule_3_fails(n, members, c):
+    return gcd(period(c.f), n) != 1
+
+
+def rule_4_fails(n, members, c):
+    a = series(c.h, c.f, c.terms)
+    return any(a[j] == 1 and (c.b + j * c.z) % n not in members for j in range(c.terms))
+
+
+SHEET = ((1, length_wrong), (2, n_wrong), (3, s_wrong), (4, header_wrong), (5, representative_wrong), (6, message_empty))
+CERTIFICATE = ((7, rule_1_fails), (8, rule_2_fails), (9, rule_3_fails), (10, rule_4_fails))
+
+
+@lru_cache(None)
+def judged(sheet):
+    # the number of the refusal, or 0
+    for number, wrong in SHEET:
+        if wrong(sheet):
+            return number
+    for c in certificates_of(sheet):
+        for number, fails in CERTIFICATE:
+            if fails(byte(sheet, 2), defining_set(sheet), c):
+                return number
+    return 0
+
+
+def working(sheet):
+    best = 0
+    certificates = certificates_of(sheet)
+    for i in range(len(certificates)):
+        if certificates[i].t > certificates[best].t:
+            best = i
+    return best
+
+
+def record(sheet):
+    n, c = byte(sheet, 2), certificates_of(sheet)[working(sheet)]
+    return n, k_of(sheet), smallest_s(n), working(sheet), c.d, c.t, c.terms
+
+
+# ---- the code
+@lru_cache(None)
+def generator(sheet):
+    n, s = byte(sheet, 2), smallest_s(byte(sheet, 2))
+    power, powers = 1, []
+    for _ in range(2 ** s - 1):
+        powers.append(power)
+        power = times(power, 2, MASKS[s])
+    roots = [powers[i * ((2 ** s - 1) // n) % (2 ** s - 1)] for i in defining_set(sheet)]
+    g = [1]
+    for root in roots:
+        g = [a ^ times(root, b, MASKS[s]) for a, b in zip([0] + g, g + [0])]
+    assert set(g) <= {0, 1}
+    return sum(a << i for i, a in enumerate(g))
+
+
+def in_bytes(count):
+    return (count + 7) // 8
+
+
+def as_mask(given):
+    return int.from_bytes(given, 'little')
+
+
+def as_bytes(mask, places):
+    return mask.to_bytes(in_bytes(places), 'little')
+
+
+def codeword(sheet, message):
+    shifted = message << byte(sheet, 2) - k_of(sheet)
+    return shifted ^ rest(shifted, generator(sheet))
+
+
+def message_in(sheet, word):
+    return word >> byte(sheet, 2) - k_of(sheet)
+
+
+@lru_cache(None)
+def remainders(sheet):
+    return [rest(1 << i, generator(sheet)) for i in range(byte(sheet, 2))]
+
+
+def nearest(sheet, word):
+    # the codeword within t places of a word, or None: every pattern of at most t errors is tried
+    n, t, wanted = byte(sheet, 2), record(sheet)[5], rest(word, generator(sheet))
+    for weight in range(t + 1):
+        for places in combinations(range(n), weight):
+            found = 0
+            for i in places:
+                found ^= remainders(sheet)[i]
+            if found == wanted:
+                return word ^ sum(1 << i for i in places)
+    return None
+
+
+# ---- the entries: kind 1 encode, 2 read, 3 decode; `given` is the message or the word, `out` the lent buffer
+NAMES = {1: 'encode', 2: 'read', 3: 'decode'}
+
+
+def sheet_refused(kind, sheet, given, out):
+    return judged(sheet)
+
+
+def input_length(kind, sheet, given, out):
+    places = k_of(sheet) if kind == 1 else byte(sheet, 2)
+    return 11 if len(given) != in_bytes(places) else 0
+
+
+def output_length(kind, sheet, given, out):
+    places = k_of(sheet) if kind == 2 else byte(sheet, 2)
+    return 11 if len(out) != in_bytes(places) else 0
+
+
+def spare_bit(kind, sheet, given, out):
+    places = k_of(sheet) if kind == 1 else byte(sheet, 2)
+    return 12 if as_mask(given) >> places else 0
+
+
+def none_found(kind, sheet, given, out):
+    if kind == 3 and nearest(sheet, as_mask(given)) is None:
+        return 13
+    if kind == 2 and rest(as_mask(given), generator(sheet)) != 0:
+        return 14
+    return 0
+
+
+ORDER = (sheet_refused, input_length, output_length, spare_bit, none_found)
+
+
+def called(kind, sheet, given, out):
+    # how the call ends, its number, and the buffer afterwards
+    for refusal in ORDER:
+        number = refusal(kind, sheet, given, out)
+        if number:
+            return 'refused', number, out
+    n, k, mask = byte(sheet, 2), k_of(sheet), as_mask(given)
+    if kind == 1:
+        return 'returned', 0, as_bytes(codeword(sheet, mask), n)
+    if kind == 2:
+        return 'returned', 0, as_bytes(message_in(sheet, mask), k)
+    right = nearest(sheet, mask)
+    return 'returned', (right ^ mask).bit_count(), as_bytes(right, n)
+
+
+def listing(sheet):
+    if judged(sheet):
+        return 'refused %d\n' % judged(sheet)
+    n, k, s, index, _, t, _ = record(sheet)
+    text = 'code %d %d %d\n' % (n, k, s)
+    text += 'zeros' + ''.join(' %d' % i for i in sorted(defining_set(sheet))) + '\n'
+    text += 'generator ' + ''.join('%d' % (generator(sheet) >> i & 1) for i in range(n - k + 1)) + '\n'
+    for i, c in enumerate(certificates_of(sheet)):
+        text += 'cert %d terms %d distance %d\n' % (i, c.terms, c.d)
+    return text + 'radius %d from cert %d\n' % (t, index)
+
+
+def carded(sheet, out):
+    if len(out) != 1024:
+        return 'refused', 11, out
+    text = listing(sheet).encode()
+    return 'returned', len(text), text + out[len(text):]
+
+
+# ---- what the program crates/vectors writes for a call, without the last newline
+def told(sheet, kind, given, space):
+    sheet = bytes(sheet)
+    if kind == 0:
+        first = 'refused %d\n' % judged(sheet) if judged(sheet) else 'accepted %d %d %d %d %d %d %d\n' % record(sheet)
+        return ended(first + listing(sheet))
+    if kind == 5:
+        end, number, out = carded(sheet, b'\xaa' * as_mask(given))
+        start = number if end == 'returned' else 0
+        return ended('card %s %d then aa %d\n' % (end, number, out[start:].count(0xaa)) + out[:start].decode())
+    return '%s %s %d %s' % (NAMES[kind], *shown(called(kind, sheet, given, b'\xaa' * space)))
+
+
+def shown(answer):
+    return answer[0], answer[1], answer[2].hex()
+
+
+def ended(text):
+    return text[:-1] if text.endswith('\n') else text + ' and no newline'

@@ -26,12 +26,16 @@ def all_calls():
     yield from boundary_answers.boundary_calls()
 
 
+def written(sheet, kind, given, space):
+    return bytes([kind, len(sheet), len(given), space]) + bytes(sheet) + given
+
+
 def main():
     if sys.argv[1:] not in (['calls'], ['answers']):
         sys.exit('usage: tools/answers.py calls|answers')
-    for sheet, kind, given, space, told in all_calls():
+    for *call, told in all_calls():
         if sys.argv[1] == 'calls':
-            sys.stdout.buffer.write(bytes([kind, len(sheet), len(given), space] + sheet) + given)
+            sys.stdout.buffer.write(written(*call))
         else:
             print(told)
 

@@ -4,7 +4,7 @@
 # A definition that is wrong at a boundary, with code that fits it, passes every proof; these calls stand against it. A sheet is as
 # right as it can be but for what it is here for, so that only the condition in question tells. Two things no sheet can be: one of 74
 # bytes that is accepted (no length up to 127 with s up to 12 has more than 19 cosets, and 74 bytes are 32 representatives), and one
-# whose certificate has 1,016 to 1,023 terms and is accepted (it would claim a distance above n); those draw 5 and 10.
+# whose certificate has 1,016 to 1,023 terms and is accepted (it would claim a distance above n). The nearest to them draw 5 and 10.
 import sys
 from functools import lru_cache
 
@@ -12,12 +12,18 @@ sys.dont_write_bytecode = True
 import second_reading as reading
 from entry_answers import certificate, changed, sheet
 
-GOOD = certificate(1, 1, 3, 1, 2)
+
+def run(b, count):
+    # a run of consecutive places: f is 3
+    return certificate(b, 1, 3, 1, count)
+
+
+GOOD = run(1, 2)
 H = sheet(7, [1], GOOD)
-E = sheet(7, [0, 1], certificate(0, 1, 3, 1, 3))
+E = sheet(7, [0, 1], run(0, 3))
 S = sheet(17, [1], certificate(13, 1, 7, 3, 9))
-B = sheet(15, [1, 3], certificate(1, 1, 3, 1, 4))
-THREE = sheet(63, [1, 3], certificate(1, 1, 3, 1, 2), certificate(1, 1, 3, 1, 4), certificate(2, 2, 3, 1, 4))
+B = sheet(15, [1, 3], run(1, 4))
+THREE = sheet(63, [1, 3], run(1, 2), run(1, 4), certificate(2, 2, 3, 1, 4))
 
 
 def leaders(n):
@@ -36,7 +42,8 @@ def lengths():
         for length in (9, 10, 11):
             for said in (length, length - 1, length + 1, length + 256):
                 yield stated([0, 0, n, 0, 10, 0, 0, 0, 10, 0, 0][:length], said)
-    for count, certificates in ((31, 4), (32, 4), (33, 4), (34, 4), (24, 5), (25, 5), (33, 3), (32, 3), (31, 3), (33, 1), (32, 1), (31, 1)):
+    for count, certificates in ((31, 4), (32, 4), (33, 4), (34, 4), (24, 5), (25, 5), (31, 3), (32, 3), (33, 3), (31, 1), (32, 1),
+                                (33, 1)):
         for n in (127, 8, 19):
             base = sheet(n, range(count), *[GOOD] * certificates)
             yield base
@@ -50,9 +57,12 @@ def lengths():
 def lengths_of_words():
     # 2 and 3: every n; nothing else is wrong with such a sheet, but where n is below 3
     for n in range(256):
-        yield sheet(n, [0], certificate(0, 1, 3, 1, 1))
+        yield sheet(n, [0], run(0, 1))
     for n in (1, 3, 5, 127, 129):
         yield sheet(n, [], certificate(0, 1, 7 if n % 3 else 11, 2, 1))
+    # a generator for every field
+    for n in range(3, 128, 2):
+        yield sheet(n, [1], run(1, 2))
 
 
 def headers():
@@ -80,23 +90,25 @@ def headers():
 
 def representatives():
     # 5 and 6; the certificate is right in many of them, since D is the same
-    for members in ([2], [4], [7], [8], [255], [6], [5], [3, 1], [1, 1], [0, 0], [0, 3, 1], [0, 1, 1], [1, 0], [0, 7], [0, 1, 7], [0, 8],
-                    [1, 8], [1, 2], [0, 2], [1, 5], [1, 6], [0, 1, 2], [0, 1, 3], [1, 3], [0, 1], [0, 1, 3, 3], [0, 1, 2, 3], [0, 2, 3]):
+    for members in ([2], [4], [7], [8], [255], [6], [5], [3, 1], [1, 1], [0, 0], [0, 3, 1], [0, 1, 1], [1, 0], [0, 7], [0, 1, 7],
+                    [0, 8], [1, 8], [1, 2], [0, 2], [1, 5], [1, 6], [0, 1, 2], [0, 1, 3], [1, 3], [0, 1], [0, 1, 3, 3], [0, 1, 2, 3],
+                    [0, 2, 3]):
         yield sheet(7, members, GOOD)
-    for members in ([1, 3], [3, 1], [1, 1, 3], [1, 3, 3], [1, 3, 5, 3], [1, 3, 5, 5], [1, 3, 7, 5], [1, 3, 5, 1], [2, 3], [1, 6], [1, 9],
-                    [1, 3, 10], [1, 3, 14], [1, 3, 15], [1, 3, 16], [1, 3, 18], [15, 1, 3], [16, 3], [1, 18], [0, 1, 3, 5, 7], [1, 3, 5, 7],
-                    [0, 1, 3, 5, 14], [0, 1, 3, 7, 5], [3, 0, 1, 5, 7]):
-        yield sheet(15, members, certificate(1, 1, 3, 1, 4))
+    for members in ([1, 3], [3, 1], [1, 1, 3], [1, 3, 3], [1, 3, 5, 3], [1, 3, 5, 5], [1, 3, 7, 5], [1, 3, 5, 1], [2, 3], [1, 6],
+                    [1, 9], [1, 3, 10], [1, 3, 14], [1, 3, 15], [1, 3, 16], [1, 3, 18], [15, 1, 3], [16, 3], [1, 18],
+                    [0, 1, 3, 5, 7], [1, 3, 5, 7], [0, 1, 3, 5, 14], [0, 1, 3, 7, 5], [3, 0, 1, 5, 7]):
+        yield sheet(15, members, run(1, 4))
     for n in (3, 5, 21, 127):
-        for members in (leaders(n), leaders(n)[1:], leaders(n)[:-1], leaders(n)[:-1] + [n - 1], leaders(n)[:-1] + [n], leaders(n)[1:] + [0]):
-            yield sheet(n, members, certificate(leaders(n)[-2], 1, 3, 1, 1))
+        all_of, but_last = leaders(n), leaders(n)[:-1]
+        for members in (all_of, all_of[1:], but_last, but_last + [n - 1], but_last + [n], all_of[1:] + [0]):
+            yield sheet(n, members, run(but_last[-1], 1))
 
 
 # ---- the certificate
 def starts_and_steps():
     for n in (7, 15, 21, 127):
         for b in (0, 1, n - 1, n, n + 1, 255):
-            yield sheet(n, leaders(n)[:-1] if b < n - 1 else [0] + leaders(n)[2:], certificate(b, 1, 3, 1, 1))
+            yield sheet(n, leaders(n)[:-1] if b < n - 1 else [0] + leaders(n)[2:], run(b, 1))
         for z in (0, 1, 2, 3, 5, 6, 7, n - 2, n - 1, n, n + 1, n + 2, 2 * n, 255):
             yield sheet(n, [1], certificate(1, z % 256, 3, 1, 1))
     yield changed(E, 12, 7)
@@ -108,7 +120,8 @@ def starts_and_steps():
 def masks():
     # u from 0 to 15, with and without a constant term; h at the degree of f, above and below; both bytes of f
     for n in (7, 15, 31):
-        for f in [0, 1, 2, 3, 4, 6, 8, 19, 31, 285, 256, 257, 258, 286, 259, 511, 529, 545, 1033, 2053, 4179, 32771] + [2 ** u + 1 for u in range(16)]:
+        for f in (0, 1, 2, 3, 4, 5, 6, 8, 9, 17, 19, 31, 33, 65, 129, 256, 257, 258, 259, 285, 286, 511, 513, 529, 545, 1025, 1033,
+                  2049, 2053, 4097, 4179, 8193, 16385, 32769, 32771):
             for h in (1, 2):
                 yield sheet(n, [1], certificate(1, 1, f, h, 1))
     for n, f in ((7, 3), (7, 7), (15, 11), (7, 19), (7, 31), (7, 285), (11, 13)):
@@ -119,8 +132,9 @@ def masks():
                     yield sheet(n, representatives, certificate(1, 1, f, h, 1))
     # rules 2 and 3
     for n in (7, 9, 15, 21, 17):
-        for f, h in ((5, 3), (9, 3), (9, 7), (9, 1), (9, 2), (15, 3), (15, 5), (21, 7), (21, 1), (7, 1), (7, 3), (11, 1), (13, 6), (19, 1), (31, 1),
-                     (31, 2), (73, 1), (5, 1), (5, 2), (63, 7), (63, 1), (283, 1), (285, 1), (451, 1), (257, 3), (511, 1), (471, 2)):
+        for f, h in ((5, 3), (9, 3), (9, 5), (9, 6), (9, 7), (9, 1), (9, 2), (15, 3), (15, 5), (21, 7), (21, 1), (7, 1), (7, 3),
+                     (11, 1), (13, 6), (19, 1), (31, 1), (31, 2), (73, 1), (5, 1), (5, 2), (63, 7), (63, 1), (283, 1), (285, 1),
+                     (451, 1), (257, 3), (511, 1), (471, 2)):
             yield sheet(n, [1], certificate(1, 1, f, h, 1))
 
 
@@ -129,6 +143,9 @@ def terms():
     for high in (0, 1, 2, 3, 4, 255):
         for low in (0, 1, 2, 3, 246, 247, 248, 254, 255):
             yield sheet(127, leaders(127)[1:], longest(low + 256 * high))
+    for z in (2, 64, 65, 126):
+        for count in (1014, 1015, 1016):
+            yield sheet(127, leaders(127)[1:], longest(count, z))
     for base, most in ((S, 9), (B, 4), (H, 2), (E, 3)):
         for low in range(most + 3):
             for high in (0, 1):
@@ -140,24 +157,27 @@ def terms():
         for count in range(1, 12):
             yield sheet(17, [1, 3], certificate(1, 1, 11, h, count))
             yield sheet(15, [0, 1, 3, 5], certificate(0, 1, 11, h, count))
-    for representatives, c in (((1, 5, 7), (55, 1, 7, 3)), ((3, 5, 11, 13), (48, 2, 15, 4)), ((1, 3), (0, 1, 3, 1)), ((1, 3), (5, 1, 3, 1))):
+    for members, c in (((1, 5, 7), (55, 1, 7, 3)), ((3, 5, 11, 13), (48, 2, 15, 4)), ((1, 3), (0, 1, 3, 1)), ((1, 3), (5, 1, 3, 1))):
         for count in range(1, 23):
-            yield sheet(65, sorted({min(reading.coset(r, 65)) for r in representatives}), certificate(*c, count))
+            yield sheet(65, sorted({min(reading.coset(r, 65)) for r in members}), certificate(*c, count))
 
 
 @lru_cache(None)
 def longest_numerator():
-    # h is such that the terms at 126, 253 and so on to 888 are 0: they stand at 0, the one coset not in D. The next is at 1,015
+    # h is such that the terms at 126, 253 and so on to 888 are 0: with b = z they stand at 0, the one coset not in D. The next of
+    # those is at 1,015
     return next(h for h in range(1, 256) if not any(reading.series(h, 285, 1015)[126::127]))
 
 
-def longest(count):
-    return certificate(1, 1, 285, longest_numerator(), count)
+def longest(count, z=1):
+    return certificate(z, z, 285, longest_numerator(), count)
 
 
 # ---- two refusals at once
 def both(i, j):
-    n = 129 if (i, j) == (2, 3) else 1 if (i, j) == (2, 6) else 255 if 2 in (i, j) else 57 if (i, j) == (3, 9) else 43 if 3 in (i, j) else 21
+    # n is 21 where it is right; 129 and 43 have s = 14, 57 has s = 18 and shares 3 with the period of f = 7, 255 has s = 8
+    special = {(2, 3): 129, (2, 6): 1, (3, 9): 57}
+    n = special.get((i, j), 255 if 2 in (i, j) else 43 if 3 in (i, j) else 21)
     members = leaders(n) if 6 in (i, j) else [2] if 5 in (i, j) else [1]
     if (i, j) == (5, 6):
         members[-1], members[-2] = members[-2], members[-1]
@@ -185,7 +205,7 @@ def pairs():
                 c[place] = value
             yield sheet(21, [1], c)
     for n, members in ((7, [0, 1, 3]), (21, leaders(21))):
-        for c in (certificate(n, 1, 3, 1, 1), certificate(0, 1, 5, 3, 1), certificate(0, 1, 11, 1, 1), certificate(0, 1, 3, 1, 0)):
+        for c in (run(n, 1), certificate(0, 1, 5, 3, 1), certificate(0, 1, 11, 1, 1), run(0, 0)):
             yield sheet(n, members, c)
 
 
@@ -196,7 +216,7 @@ def holds(number, made):
     return dict(reading.CERTIFICATE)[number](n, members, reading.certificates_of(made)[0])
 
 
-FAILING = {0: GOOD, 7: certificate(1, 1, 3, 1, 0), 8: certificate(1, 1, 5, 3, 1), 9: certificate(1, 1, 7, 1, 1), 10: certificate(1, 1, 3, 1, 3)}
+FAILING = {0: GOOD, 7: run(1, 0), 8: certificate(1, 1, 5, 3, 1), 9: certificate(1, 1, 7, 1, 1), 10: run(1, 3)}
 
 
 def several():
@@ -207,12 +227,13 @@ def several():
                 for after in range(3 - before):
                     yield sheet(21, [1], *[GOOD] * before, FAILING[first], FAILING[second], *[GOOD] * after)
     # which one works: t is 0, 1, 1, 2 for 1 to 4 terms
-    for counts in [(i, j) for i in range(1, 5) for j in range(1, 5)] + [(1, 2, 3), (1, 3, 2), (2, 3, 4), (3, 2, 1), (1, 1, 1), (2, 4, 4), (
-            2, 3, 4, 4), (1, 3, 2, 3), (4, 3, 2, 1), (3, 4, 4, 3), (1, 1, 2, 3), (1, 1, 1, 2), (3, 3, 3, 4), (1, 4, 3, 4), (2, 1, 1, 3)]:
-        yield sheet(15, [1, 3], *[certificate(1, 1, 3, 1, count) for count in counts])
+    for counts in [(i, j) for i in range(1, 5) for j in range(1, 5)] + [
+            (1, 2, 3), (1, 3, 2), (2, 3, 4), (3, 2, 1), (1, 1, 1), (2, 4, 4), (2, 3, 4, 4), (1, 3, 2, 3), (4, 3, 2, 1), (3, 4, 4, 3),
+            (1, 1, 2, 3), (1, 1, 1, 2), (3, 3, 3, 4), (1, 4, 3, 4), (2, 1, 1, 3)]:
+        yield sheet(15, [1, 3], *[run(1, count) for count in counts])
     # a larger L with a smaller t
-    yield sheet(17, [1], certificate(13, 1, 7, 3, 6), certificate(1, 1, 3, 1, 2), certificate(13, 1, 7, 3, 9))
-    yield sheet(17, [1], certificate(13, 1, 7, 3, 4), certificate(1, 1, 3, 1, 2), certificate(13, 1, 7, 3, 5))
+    yield sheet(17, [1], certificate(13, 1, 7, 3, 6), run(1, 2), certificate(13, 1, 7, 3, 9))
+    yield sheet(17, [1], certificate(13, 1, 7, 3, 4), run(1, 2), certificate(13, 1, 7, 3, 5))
 
 
 # ---- calls: a sheet, the kind, the input and the length of the buffer
@@ -231,13 +252,12 @@ def sheet_calls():
 
 
 WORD_SHEETS = (
-    H, E, S, B, sheet(3, [1], certificate(1, 1, 3, 1, 2)), sheet(7, [1, 3], certificate(1, 1, 3, 1, 6)), sheet(9, [0], certificate(0, 1, 3, 1, 1)),
-    sheet(9, [], certificate(0, 1, 7 + 4, 2, 1)), sheet(9, [3], certificate(3, 1, 3, 1, 1)), sheet(9, [1, 3], certificate(1, 1, 3, 1, 8)),
-    sheet(15, [0, 1, 5], certificate(0, 1, 3, 1, 3)), sheet(15, [1, 3, 5], certificate(1, 1, 3, 1, 6)), sheet(15, [0], certificate(0, 1, 3, 1, 1)),
-    sheet(17, [0], certificate(0, 1, 3, 1, 1)), sheet(15, [1, 3], certificate(1, 1, 3, 1, 2)), sheet(23, [1], certificate(1, 1, 3, 1, 4)),
-    sheet(15, [1, 3], certificate(1, 1, 3, 1, 2), certificate(1, 1, 3, 1, 4)), sheet(15, [1, 3], certificate(1, 1, 3, 1, 1), certificate(1, 1, 3, 1, 3)),
-    sheet(65, [1], certificate(61, 1, 7, 3, 9)), sheet(127, [1], GOOD), sheet(31, [1, 3], certificate(1, 1, 3, 1, 4)),
-    sheet(21, [1, 3, 7, 9], certificate(1, 1, 3, 1, 4)), sheet(17, [], certificate(0, 1, 7, 2, 1)))
+    H, E, S, B, sheet(3, [1], run(1, 2)), sheet(7, [1, 3], run(1, 6)), sheet(9, [0], run(0, 1)),
+    sheet(9, [], certificate(0, 1, 11, 2, 1)), sheet(9, [3], run(3, 1)), sheet(9, [1, 3], run(1, 8)), sheet(15, [0, 1, 5], run(0, 3)),
+    sheet(15, [1, 3, 5], run(1, 6)), sheet(15, [0], run(0, 1)), sheet(17, [0], run(0, 1)), sheet(15, [1, 3], run(1, 2)),
+    sheet(23, [1], run(1, 4)), sheet(15, [1, 3], run(1, 2), run(1, 4)), sheet(15, [1, 3], run(1, 1), run(1, 3)),
+    sheet(15, [1, 3], run(1, 4), run(1, 2)), sheet(65, [1], certificate(61, 1, 7, 3, 9)), sheet(127, [1], GOOD),
+    sheet(31, [1, 3], run(1, 4)), sheet(21, [1, 3, 7, 9], run(1, 4)), sheet(17, [], certificate(0, 1, 7, 2, 1)))
 
 
 def word_calls(made):
@@ -274,9 +294,9 @@ def word_calls(made):
 def card_calls():
     one_each = {reading.judged(bytes(made)): made for made in [*pairs(), *several(), *lengths(), *headers()]}
     assert sorted(one_each) == list(range(11))
-    wide = sheet(127, leaders(127)[1:], longest(1015), *[certificate(1, 1, 3, 1, count) for count in (126, 100, 99)])
-    for made in [*one_each.values(), H, E, S, B, THREE, wide, *WORD_SHEETS, sheet(105, [1, 3, 5, 7], *[certificate(1, 1, 3, 1, 2)] * 4),
-                 sheet(127, [], certificate(0, 1, 7, 2, 1)), sheet(91, [1, 3, 5], certificate(1, 1, 3, 1, 2), certificate(1, 1, 3, 1, 6))]:
+    wide = sheet(127, leaders(127)[1:], longest(1015), *[run(1, count) for count in (126, 100, 99)])
+    for made in [*one_each.values(), THREE, wide, *WORD_SHEETS, sheet(105, [1, 3, 5, 7], *[GOOD] * 4),
+                 sheet(127, [], certificate(0, 1, 7, 2, 1)), sheet(91, [1, 3, 5], run(1, 2), run(1, 6))]:
         full = len(reading.listing(bytes(made)))
         for length in (0, 1, 10, 11, 12, full, 74, 255, 256, 512, 768, 1023, 1024, 1025, 1280):
             if length == 1024 or made in (H, wide, *one_each.values()):

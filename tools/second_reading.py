@@ -1,5 +1,7 @@
 # A second reading of document 01, made from its text alone: judge, card, encode, read and decode as searches and sums, with none of
-# the product's code and none of entry_answers.py's. Polynomials over two elements are masks, as in the document.
+# the product's code and none of entry_answers.py's. Polynomials over two elements are masks, as in the document. What the document
+# leaves open (card's buffer of 1,024 bytes and its 11, the last newline, the 0 that encode and read return) is as docs/PROMISES.md
+# says.
 #
 # tools/boundary_answers.py answers its calls by it. tools/misreadings replaces single lines of it, each by a wrong reading: that is
 # why every condition stands in a line of its own, and why what comes first is told by tables.
@@ -15,12 +17,12 @@ def degree(mask):
     return mask.bit_length() - 1
 
 
-def times(a, b, modulus=0):
+def times(a, b, modulus):
     total = 0
     for i in range(b.bit_length()):
         if b >> i & 1:
             total ^= a << i
-    return rest(total, modulus) if modulus else total
+    return rest(total, modulus)
 
 
 def rest(a, b):
@@ -63,6 +65,7 @@ def smallest_s(n):
     return 99
 
 
+@lru_cache(None)
 def coset(r, n):
     return {r * 2 ** j % n for j in range(n)} if n else {r}
 
@@ -158,6 +161,7 @@ class Certificate:
         self.t = (self.d - 1) // 2
 
 
+@lru_cache(None)
 def certificates_of(sheet):
     start = 10 + byte(sheet, 3)
     return [Certificate(sheet[start + 8 * i:start + 8 * i + 8]) for i in range(byte(sheet, 6))]
@@ -235,15 +239,22 @@ def record(sheet):
 
 # ---- the code
 @lru_cache(None)
+def powers_of_omega(s):
+    powers = [1]
+    while len(powers) < 2 ** s - 1:
+        powers.append(rest(2 * powers[-1], MASKS[s]))
+    return powers
+
+
 def generator(sheet):
-    n, s = byte(sheet, 2), smallest_s(byte(sheet, 2))
-    power, powers = 1, []
-    for _ in range(2 ** s - 1):
-        powers.append(power)
-        power = times(power, 2, MASKS[s])
-    roots = [powers[i * ((2 ** s - 1) // n) % (2 ** s - 1)] for i in defining_set(sheet)]
-    g = [1]
-    for root in roots:
+    return generator_of(byte(sheet, 2), tuple(sorted(defining_set(sheet))))
+
+
+@lru_cache(None)
+def generator_of(n, members):
+    s, g = smallest_s(n), [1]
+    for i in members:
+        root = powers_of_omega(s)[i * ((2 ** s - 1) // n) % (2 ** s - 1)]
         g = [a ^ times(root, b, MASKS[s]) for a, b in zip([0] + g, g + [0])]
     assert set(g) <= {0, 1}
     return sum(a << i for i, a in enumerate(g))
@@ -275,6 +286,7 @@ def remainders(sheet):
     return [rest(1 << i, generator(sheet)) for i in range(byte(sheet, 2))]
 
 
+@lru_cache(None)
 def nearest(sheet, word):
     # the codeword within t places of a word, or None: every pattern of at most t errors is tried
     n, t, wanted = byte(sheet, 2), record(sheet)[5], rest(word, generator(sheet))
@@ -360,12 +372,13 @@ def carded(sheet, out):
 def told(sheet, kind, given, space):
     sheet = bytes(sheet)
     if kind == 0:
+        end, number, out = carded(sheet, b'\xaa' * 1024)
         first = 'refused %d\n' % judged(sheet) if judged(sheet) else 'accepted %d %d %d %d %d %d %d\n' % record(sheet)
-        return ended(first + listing(sheet))
+        return ended(first + (out[:number].decode('latin-1') if end == 'returned' else 'refused %d\n' % number))
     if kind == 5:
         end, number, out = carded(sheet, b'\xaa' * as_mask(given))
         start = number if end == 'returned' else 0
-        return ended('card %s %d then aa %d\n' % (end, number, out[start:].count(0xaa)) + out[:start].decode())
+        return ended('card %s %d then aa %d\n' % (end, number, out[start:].count(0xaa)) + out[:start].decode('latin-1'))
     return '%s %s %d %s' % (NAMES[kind], *shown(called(kind, sheet, given, b'\xaa' * space)))
 
 

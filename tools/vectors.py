@@ -161,8 +161,9 @@ cyclic codes, and by a plain decoder in Python. `tools/vectors/make` makes those
 
 `tools/vectors.py` finds the sheet of each code and turns the files into %(entries)d calls of judge, card, encode and read and
 %(decodes)d of decode. It has also written this page. The plain decoder is tools/decode_answers.py, which goes through error patterns or
-codewords; tools/entry_answers.py judges, lists, encodes and reads. docs/PROMISES.md says what they cover. `tools/answers.py`
-writes all calls and answers, crates/vectors/stdin and stdout.
+codewords; tools/entry_answers.py judges, lists, encodes and reads, and tools/boundary_answers.py does all of it again at every boundary, by a
+reading of its own (docs/MISREADINGS.md). docs/PROMISES.md says what they cover. `tools/answers.py` writes all calls and answers,
+crates/vectors/stdin and stdout.
 
 On a code of GUAVA's a word has 0 to 5 wrong places, on one of IT++'s 0 to t + 2, two words for each number.
 

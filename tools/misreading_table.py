@@ -1,0 +1,265 @@
+# Misreadings of document 01, for tools/misreadings: each is a name and what is replaced in tools/second_reading.py, a line or a part
+# of one, by what. What is replaced must stand there exactly once.
+MISREADINGS = []
+
+
+def misread(name, *replaced):
+    MISREADINGS.append((name, [replaced[i:i + 2] for i in range(0, len(replaced), 2)]))
+
+
+# ---- 1 to 3: length, n, s
+for limit in (9, 11):
+    misread('1: under %d bytes' % limit, 'if len(sheet) < 10:', 'if len(sheet) < %d:' % limit)
+for limit in (73, 75):
+    misread('1: over %d bytes' % limit, 'if len(sheet) > 74:', 'if len(sheet) > %d:' % limit)
+STATED = 'return pair(sheet, 0) != len(sheet)'
+misread('1: high byte of the length ignored', STATED, 'return byte(sheet, 0) != len(sheet)')
+misread('1: stated length ignored', STATED, 'return False')
+misread('1: stated length may be less', STATED, 'return pair(sheet, 0) > len(sheet)')
+misread('1: stated length may be more', STATED, 'return pair(sheet, 0) < len(sheet)')
+misread('16-bit numbers high byte first', 'return byte(sheet, place) + 256 * byte(sheet, place + 1)',
+        'return 256 * byte(sheet, place) + byte(sheet, place + 1)')
+misread('2: even n allowed', 'if n % 2 == 0:', 'if False:')
+for limit in (1, 4):
+    misread('2: n below %d' % limit, 'if n < 3:', 'if n < %d:' % limit)
+for limit in (126, 129, 255):
+    misread('2: n above %d' % limit, 'return n > 127', 'return n > %d' % limit)
+ENOUGH = 'return smallest_s(byte(sheet, 2)) > 12'
+for limit in (11, 14, 18):
+    misread('3: s above %d' % limit, ENOUGH, ENOUGH.replace('12', str(limit)))
+
+# ---- 4: the header
+for limit in (31, 33, 255):
+    misread('4: R to %d' % limit, 'if count > 32:', 'if count > %d:' % limit)
+misread('4: C from 0', 'if certificates < 1:', 'if certificates < 0:')
+misread('4: C from 2', 'if certificates < 1:', 'if certificates < 2:')
+for limit in (3, 5):
+    misread('4: C to %d' % limit, 'if certificates > 4:', 'if certificates > %d:' % limit)
+for what, place, value in (('representatives', 4, '10'), ('certificates', 8, '10 + count')):
+    line = 'if pair(sheet, %d) != %s:' % (place, value)
+    misread('4: offset of the %s ignored' % what, line, 'if False:')
+    misread('4: high byte of the offset of the %s ignored' % what, line, 'if byte(sheet, %d) != %s:' % (place, value))
+    misread('4: offset of the %s may be less' % what, line, 'if pair(sheet, %d) > %s:' % (place, value))
+    misread('4: offset of the %s may be more' % what, line, 'if pair(sheet, %d) < %s:' % (place, value))
+misread('4: offset of the certificates always 11', 'if pair(sheet, 8) != 10 + count:', 'if pair(sheet, 8) != 11:')
+misread('4: byte 7 ignored', 'if byte(sheet, 7) != 0:', 'if False:')
+misread('4: byte 7 at most 1', 'if byte(sheet, 7) != 0:', 'if byte(sheet, 7) > 1:')
+FORMULA = 'return len(sheet) != 10 + count + 8 * certificates'
+misread('4: length formula ignored', FORMULA, 'return False')
+misread('4: sheet may be longer than the formula', FORMULA, 'return len(sheet) < 10 + count + 8 * certificates')
+misread('4: sheet may be shorter than the formula', FORMULA, 'return len(sheet) > 10 + count + 8 * certificates')
+
+# ---- 5 and 6: representatives, k
+SMALLEST = 'if r != min(coset(r, n)):'
+misread('5: representatives modulo n', 'if r >= n:', 'if False:', SMALLEST, 'if r % n != min(coset(r, n)):')
+misread('5: smallest of its coset not asked', SMALLEST, 'if False:')
+misread('5: equal ones allowed', 'if r <= before:', 'if r < before:')
+misread('5: rising not asked', 'if r <= before:', 'if False:')
+misread('5: falling ones asked', 'if r <= before:', 'if before >= 0 and r >= before:')
+misread('5: rising asked of the first two only', 'before = r', 'before = r if len(representatives_of(sheet)) < 3 else -1')
+misread('5: each compared with the first only', 'before = r', 'before = representatives_of(sheet)[0]')
+EACH = 'for r in representatives_of(sheet):\n        if r >= n'
+misread('5: the last one not looked at', EACH, EACH.replace('(sheet)', '(sheet)[:-1]'))
+misread('5: the first one not looked at', EACH, EACH.replace('(sheet)', '(sheet)[1:]'))
+misread('6: k = 0 allowed', 'return k_of(sheet) == 0', 'return False')
+misread('6: k at most 1 refused', 'return k_of(sheet) == 0', 'return k_of(sheet) <= 1')
+misread('D without cosets', 'members |= coset(r, byte(sheet, 2))', 'members |= {r}')
+
+# ---- 7: rule 1
+misread('7: b up to n', 'if c.b >= n:', 'if c.b > n:')
+misread('7: b any byte', 'if c.b >= n:', 'if False:')
+misread('7: b below n - 1', 'if c.b >= n:', 'if c.b >= n - 1:')
+misread('7: b above 0', 'if c.b >= n:', 'if c.b >= n or c.b == 0:')
+misread('7: z from 2', 'if c.z < 1:', 'if c.z < 2:')
+misread('7: z to n - 2', 'if c.z > n - 1:', 'if c.z > n - 2:')
+misread('7: z to n + 1', 'if c.z > n - 1:', 'if c.z > n + 1:')
+misread('7: z any byte', 'if c.z > n - 1:', 'if False:')
+misread('7: z coprime to n not asked', 'if gcd(c.z, n) != 1:', 'if False:')
+misread('7: z no divisor of n', 'if gcd(c.z, n) != 1:', 'if c.z > 1 and n % c.z == 0:')
+misread('7: u from 2', 'if c.u < 1:', 'if c.u < 2:')
+for limit in (7, 9, 15):
+    misread('7: u to %d' % limit, 'if c.u > 8:', 'if c.u > %d:' % limit)
+misread('7: constant term not asked', 'if c.f % 2 == 0:', 'if False:')
+misread('7: h = 0 allowed', 'if c.h == 0:', 'if False:')
+misread('7: v up to u', 'if c.v >= c.u:', 'if c.v > c.u:')
+misread('7: v up to u + 1', 'if c.v >= c.u:', 'if c.v > c.u + 1:')
+misread('7: v below u - 1', 'if c.v >= c.u:', 'if c.v >= c.u - 1 and c.v > 0:')
+misread('7: h with constant term', 'if c.h == 0:', 'if c.h % 2 == 0:')
+misread('7: L from 0', 'if c.terms < 1:', 'if c.terms < 0:')
+misread('7: L from 2', 'if c.terms < 1:', 'if c.terms < 2:')
+for limit in (1014, 1022, 1024, 65535):
+    misread('7: L to %d' % limit, 'if c.terms > 1023:', 'if c.terms > %d:' % limit)
+misread('7: zero byte ignored', 'return c.zero != 0', 'return False')
+misread('7: zero byte at most 1', 'return c.zero != 0', 'return c.zero > 1')
+misread('high byte of f ignored', 'pair(c, 2)', 'byte(c, 2)')
+misread('high byte of L ignored', 'pair(c, 6)', 'byte(c, 6)')
+
+# ---- 8 to 10: rules 2 to 4
+misread('8: rule 2 not asked', 'return common(c.f, c.h) != 1', 'return False')
+misread('8: only where h divides f', 'return common(c.f, c.h) != 1', 'return c.h != 1 and common(c.f, c.h) == c.h')
+misread('8: only where both are 0 at 1', 'return common(c.f, c.h) != 1', 'return common(common(c.f, c.h), 3) != 1')
+misread('9: rule 3 not asked', 'return gcd(period(c.f), n) != 1', 'return False')
+misread('9: 2^u - 1 for the period', 'gcd(period(c.f), n)', 'gcd(2 ** c.u - 1, n)')
+misread('9: period no divisor of n', 'return gcd(period(c.f), n) != 1', 'return period(c.f) > 1 and n % period(c.f) == 0')
+misread('9: period no multiple of n', 'return gcd(period(c.f), n) != 1', 'return period(c.f) % n == 0')
+ASKED = 'any(a[j] == 1 and (c.b + j * c.z) % n not in members for j in range(c.terms))'
+misread('10: rule 4 not asked', 'return ' + ASKED, 'return False')
+misread('10: terms from j = 1', ASKED, ASKED.replace('range(c.terms)', 'range(1, c.terms)'))
+misread('10: the last term not asked', ASKED, ASKED.replace('range(c.terms)', 'range(c.terms - 1)'))
+misread('10: one term more asked', 'a = series(c.h, c.f, c.terms)', 'a = series(c.h, c.f, c.terms + 1)', ASKED,
+        ASKED.replace('range(c.terms)', 'range(c.terms + 1)'))
+misread('10: the first term only', ASKED, ASKED.replace('range(c.terms)', 'range(1)'))
+misread('10: terms that are 0 asked too', ASKED, ASKED.replace('a[j] == 1 and ', ''))
+misread('10: step 1 for z', ASKED, ASKED.replace('j * c.z', 'j'))
+misread('10: places modulo 2^8', ASKED, ASKED.replace('% n', '% 256 % n'))
+misread('10: places modulo 2^16', ASKED, ASKED.replace('% n', '% 65536 % n'))
+misread('10: start 0 for b', ASKED, ASKED.replace('c.b + ', ''))
+misread('10: terms of 1/f', 'a = series(c.h, c.f, c.terms)', 'a = series(1, c.f, c.terms)')
+
+# ---- their order
+NAMES = {1: 'length_wrong', 2: 'n_wrong', 3: 's_wrong', 4: 'header_wrong', 5: 'representative_wrong', 6: 'message_empty',
+         7: 'rule_1_fails', 8: 'rule_2_fails', 9: 'rule_3_fails', 10: 'rule_4_fails'}
+CONDITIONS = {i: '(%d, %s)' % (i, name) for i, name in NAMES.items()}
+for i, j in [(i, j) for j in range(2, 11) for i in range(1, j) if j < 7 or i > 6]:
+    between = [CONDITIONS[m] for m in range(i, j)]
+    misread('%d before %s' % (j, i if i == j - 1 else '%d to %d' % (i, j - 1)), ', '.join(between + [CONDITIONS[j]]),
+            ', '.join([CONDITIONS[j]] + between))
+LATER = '''judging = judged
+
+
+def judged(sheet):
+    return judging(sheet) or next((number for number, wrong in LAST if wrong(sheet)), 0)
+
+
+def working('''
+misread('7 to 10 before 6', ', (6, message_empty))', ')\nLAST = ((6, message_empty),)', 'def working(', LATER)
+misread('7 to 10 before 5 and 6', ', (5, representative_wrong), (6, message_empty))',
+        ')\nLAST = ((5, representative_wrong), (6, message_empty))', 'def working(', LATER)
+LOOPS = '''    for c in certificates_of(sheet):
+        for number, fails in CERTIFICATE:'''
+misread('7 of all certificates before 8 of all', LOOPS, '''    for number, fails in CERTIFICATE:
+        for c in certificates_of(sheet):''')
+misread('the last certificate first', LOOPS, LOOPS.replace('certificates_of(sheet)', 'certificates_of(sheet)[::-1]'))
+misread('only the first certificate judged', LOOPS, LOOPS.replace('certificates_of(sheet)', 'certificates_of(sheet)[:1]'))
+misread('the fourth certificate not judged', LOOPS, LOOPS.replace('certificates_of(sheet)', 'certificates_of(sheet)[:3]'))
+
+# ---- distance and working certificate
+DISTANCE = '-((self.v - self.terms) // self.u) + 1'
+misread('d rounded down', DISTANCE, '(self.terms - self.v) // self.u + 1')
+misread('d one more where u divides L - v', DISTANCE, '(self.terms - self.v) // self.u + 2')
+misread('d without v', DISTANCE, '-(-self.terms // self.u) + 1')
+misread('d = L + 1', DISTANCE, 'self.terms + 1')
+misread('d without + 1', DISTANCE, '-((self.v - self.terms) // self.u)')
+misread('d at least 2', DISTANCE, 'max(2, %s)' % DISTANCE)
+misread('t = d/2, or (d - 1)/2 rounded up', '(self.d - 1) // 2', 'self.d // 2')
+BETTER = 'certificates[i].t > certificates[best].t'
+misread('working: the last of equal t', BETTER, BETTER.replace('>', '>='))
+misread('working: the largest d', BETTER, BETTER.replace('.t', '.d'))
+misread('working: the largest L', BETTER, BETTER.replace('.t', '.terms'))
+misread('working: the first', BETTER, 'False')
+misread('working: the smallest t', BETTER, BETTER.replace('>', '<'))
+misread('d of the sheet: the largest', 'working(sheet), c.d,', 'working(sheet), max(x.d for x in certificates_of(sheet)),')
+RADIUS = 'n, t, wanted = byte(sheet, 2), record(sheet)[5],'
+misread('decode: t of the first certificate', RADIUS, RADIUS.replace('record(sheet)[5]', 'certificates_of(sheet)[0].t'))
+misread('decode: t of the last certificate', RADIUS, RADIUS.replace('record(sheet)[5]', 'certificates_of(sheet)[-1].t'))
+
+# ---- the code
+for s, mask in ((3, 11), (4, 19), (5, 37), (6, 67), (7, 131), (8, 285), (9, 529), (10, 1033), (11, 2053), (12, 4179)):
+    misread('field: the reversed mask for s = %d' % s, ' %d: %d' % (s, mask), ' %d: %d' % (s, int(bin(mask)[:1:-1], 2)))
+misread('words: most significant bit first', "int.from_bytes(given, 'little')",
+        "int.from_bytes((int(bin(256 + x)[:2:-1], 2) for x in given), 'little')", "return mask.to_bytes(in_bytes(places), 'little')",
+        "return bytes(int(bin(256 + x)[:2:-1], 2) for x in mask.to_bytes(in_bytes(places), 'little'))")
+misread('words: high byte first', "int.from_bytes(given, 'little')", "int.from_bytes(given, 'big')")
+ENCODED = 'return shifted ^ rest(shifted, generator(sheet))'
+misread('encode: message times generator', ENCODED, 'return times(message, generator(sheet), 1 << 200)')
+misread('encode: places below n - k left 0', ENCODED, 'return shifted')
+misread('read: the low places', 'return word >> byte(sheet, 2) - k_of(sheet)', 'return word % 2 ** k_of(sheet)')
+misread('decode: to t - 1 places', 'for weight in range(t + 1):', 'for weight in range(max(t, 1)):')
+misread('decode: to t + 1 places', 'for weight in range(t + 1):', 'for weight in range(t + 2):')
+DECODED = "return 'returned', (right ^ mask).bit_count(), as_bytes(right, n)"
+COUNT = '(right ^ mask).bit_count()'
+misread('decode: the word as received', DECODED, DECODED.replace('as_bytes(right, n)', 'given'))
+misread('decode: returns 0', DECODED, DECODED.replace(COUNT, '0'))
+misread('decode: counts bytes', DECODED, DECODED.replace(COUNT, 'sum(x > 0 for x in as_bytes(right ^ mask, n))'))
+misread('decode: message places counted only', DECODED, DECODED.replace(COUNT, '(right >> n - k ^ mask >> n - k).bit_count()'))
+misread('decode: message in place of the word', 'as_bytes(right, n)', 'as_bytes(right >> n - k, n)')
+
+# ---- 11 to 14
+for what, line in (('input', '11 if len(given) != in_bytes(places) else 0'), ('output', '11 if len(out) != in_bytes(places) else 0')):
+    misread('11: %s may be longer' % what, line, line.replace('!=', '<'))
+    misread('11: %s may be shorter' % what, line, line.replace('!=', '>'))
+    misread('11: %s ignored' % what, line, '0')
+misread('11: a message has n/8 bytes', '''    places = k_of(sheet) if kind == 1 else byte(sheet, 2)
+    return 11''', '''    places = byte(sheet, 2)
+    return 11''')
+misread('11: one byte too many where k or n is a multiple of 8', '(count + 7) // 8', 'count // 8 + 1')
+SPARE = '12 if as_mask(given) >> places else 0'
+misread('12: spare bits ignored', SPARE, '0')
+misread('12: the lowest spare bit only', SPARE, '12 if as_mask(given) >> places & 1 else 0')
+misread('12: the highest spare bit only', SPARE, '12 if places % 8 and given[-1:] >= bytes([128]) else 0')
+misread('12: spare bits of messages ignored', SPARE, '12 if kind != 1 and as_mask(given) >> places else 0')
+misread('12: spare bits of words read out ignored', SPARE, '12 if kind != 2 and as_mask(given) >> places else 0')
+misread('12: spare bits of words decoded ignored', SPARE, '12 if kind != 3 and as_mask(given) >> places else 0')
+ORDER = '(sheet_refused, input_length, output_length, spare_bit, none_found)'
+misread('12 before 11', ORDER, '(sheet_refused, spare_bit, input_length, output_length, none_found)')
+misread('12 before 11 of the output', ORDER, '(sheet_refused, input_length, spare_bit, output_length, none_found)')
+misread('13 and 14 before 12', ORDER, '(sheet_refused, input_length, output_length, none_found, spare_bit)')
+misread('13 and 14 before 11 of the output', ORDER, '(sheet_refused, input_length, none_found, output_length, spare_bit)')
+misread('11 before the sheet', ORDER, '(input_length, output_length, sheet_refused, spare_bit, none_found)')
+misread('11 and 12 before the sheet', ORDER, '(input_length, output_length, spare_bit, sheet_refused, none_found)')
+misread('11 before the certificates', ORDER, '(header_refused, input_length, output_length, sheet_refused, spare_bit, none_found)',
+        'def input_length(', '''def header_refused(kind, sheet, given, out):
+    return judged(sheet) if judged(sheet) < 7 else 0
+
+
+def input_length(''')
+misread('13: the word as received in its place', 'if kind == 3 and nearest(sheet, as_mask(given)) is None:', 'if False:',
+        'right = nearest(sheet, mask)', 'right = nearest(sheet, mask) or mask')
+misread('13 and 14 swapped', 'return 13', 'return 14 ', 'return 14\n', 'return 13\n')
+misread('14: a word that is no codeword read out', 'if kind == 2 and rest(', 'if kind == 0 and rest(')
+REFUSED = "return 'refused', number, out"
+misread('a refused call changes the first byte', REFUSED, "return 'refused', number, bytes(1)[:len(out)] + out[1:]")
+misread('a refused call changes the last byte', REFUSED, "return 'refused', number, out[:-1] + bytes(1)[:len(out)]")
+misread('13 with the received word written', REFUSED, "return 'refused', number, given if number == 13 else out")
+misread('a refusal returned as a count', REFUSED, "return 'returned', number, out")
+
+# ---- card
+WRONG = 'if len(out) != 1024:'
+misread('card: buffer may be longer', WRONG, 'if len(out) < 1024:')
+misread('card: buffer may be shorter', WRONG, 'if len(out) > 1024:')
+misread('card: buffer as long as the listing', WRONG, 'if len(out) < len(listing(sheet)):')
+misread('card: buffer of 1,023', WRONG, 'if len(out) != 1023:')
+misread('card: 11 after the sheet', WRONG, 'if len(out) != 1024 and not judged(sheet):')
+misread('card: a refused sheet refused by its number', WRONG, '''if judged(sheet):
+        return 'refused', judged(sheet), out
+    ''' + WRONG)
+misread('card: refused 11 returned as a length', "return 'refused', 11, out", "return 'returned', 11, out")
+misread('card: 11 with the first byte changed', "return 'refused', 11, out", "return 'refused', 11, bytes(1)[:len(out)] + out[1:]")
+misread('card: the rest cleared', 'text + out[len(text):]', 'text + bytes(len(out) - len(text))')
+misread('card: a byte 0 after the listing', 'text + out[len(text):]', 'text + bytes(1) + out[len(text) + 1:]')
+misread('card: returns 0', "return 'returned', len(text)", "return 'returned', 0")
+misread('card: returns the buffer\'s length', "return 'returned', len(text)", "return 'returned', len(out)")
+misread('card: no newline at the end', 'text = listing(sheet).encode()', 'text = listing(sheet).encode()[:-1]')
+misread('card: no newline after refused', "return 'refused %d\\n' % judged(sheet)", "return 'refused %d' % judged(sheet)")
+misread('card: a space after zeros where D is empty', "'zeros' + ''.join(' %d' % i for i in sorted(defining_set(sheet)))",
+        "'zeros ' + ' '.join('%d' % i for i in sorted(defining_set(sheet)))")
+misread('card: representatives for D', 'for i in sorted(defining_set(sheet))', 'for i in representatives_of(sheet)')
+misread('card: D by cosets', 'for i in sorted(defining_set(sheet))', 'for r in representatives_of(sheet) for i in sorted(coset(r, n))')
+misread('card: generator from the top down', 'for i in range(n - k + 1))', 'for i in range(n - k, -1, -1))')
+misread('card: certificates from 1', '(i, c.terms, c.d)', '(i + 1, c.terms, c.d)')
+misread('card: the working certificate from 1', '% (t, index)', '% (t, index + 1)')
+misread('card: d for t', '% (t, index)', '% (record(sheet)[4], index)')
+misread('card: distance of the working one for all', '(i, c.terms, c.d)', '(i, c.terms, record(sheet)[4])')
+misread('card: k before n', "'code %d %d %d\\n' % (n, k, s)", "'code %d %d %d\\n' % (k, n, s)")
+
+# ---- what no call can tell, and why
+SAME = (
+    ('2: n below 2', 'if n < 3:', 'if n < 2:', '2 is even'),
+    ('2: n above 128', 'return n > 127', 'return n > 128', '128 is even'),
+    ('3: s above 13', ENOUGH, ENOUGH.replace('12', '13'), 'no n has s = 13, since 2^13 - 1 is a prime above 127'),
+    ('5: below n not asked', 'if r >= n:', 'if False:', 'the smallest of a coset is below n'),
+    ('7: z = 0 allowed', 'if c.z < 1:', 'if False:', 'all of n divides 0 and n'),
+    ('7: z = n allowed', 'if c.z > n - 1:', 'if c.z > n:', 'all of n divides n'),
+    ('7: u from 0', 'if c.u < 1:', 'if False:', 'h is not 0 and v < u'),
+    ('11: output before input', ORDER, ORDER.replace('input_length, output_length', 'output_length, input_length'), 'both are 11'),
+)

@@ -56,9 +56,10 @@ misread('5: smallest of its coset not asked', SMALLEST, 'if False:')
 misread('5: equal ones allowed', 'if r <= before:', 'if r < before:')
 misread('5: rising not asked', 'if r <= before:', 'if False:')
 misread('5: falling ones asked', 'if r <= before:', 'if before >= 0 and r >= before:')
-misread('5: rising asked of the first two only', 'before = r', 'before = r if len(representatives_of(sheet)) < 3 else -1')
 misread('5: each compared with the first only', 'before = r', 'before = representatives_of(sheet)[0]')
 EACH = 'for r in representatives_of(sheet):\n        if r >= n'
+misread('5: rising asked of the first two only', EACH, EACH.replace('r in', 'i, r in enumerate(').replace(':', '):', 1), 'before = r',
+        'before = r if i == 0 else -1')
 misread('5: the last one not looked at', EACH, EACH.replace('(sheet)', '(sheet)[:-1]'))
 misread('5: the first one not looked at', EACH, EACH.replace('(sheet)', '(sheet)[1:]'))
 misread('6: k = 0 allowed', 'return k_of(sheet) == 0', 'return False')
@@ -169,7 +170,8 @@ for s, mask in ((3, 11), (4, 19), (5, 37), (6, 67), (7, 131), (8, 285), (9, 529)
 misread('words: most significant bit first', "int.from_bytes(given, 'little')",
         "int.from_bytes((int(bin(256 + x)[:2:-1], 2) for x in given), 'little')", "return mask.to_bytes(in_bytes(places), 'little')",
         "return bytes(int(bin(256 + x)[:2:-1], 2) for x in mask.to_bytes(in_bytes(places), 'little'))")
-misread('words: high byte first', "int.from_bytes(given, 'little')", "int.from_bytes(given, 'big')")
+misread('words: high byte first', "int.from_bytes(given, 'little')", "int.from_bytes(given, 'big')",
+        "mask.to_bytes(in_bytes(places), 'little')", "mask.to_bytes(in_bytes(places), 'big')")
 ENCODED = 'return shifted ^ rest(shifted, generator(sheet))'
 misread('encode: message times generator', ENCODED, 'return times(message, generator(sheet), 1 << 200)')
 misread('encode: places below n - k left 0', ENCODED, 'return shifted')
@@ -214,7 +216,7 @@ misread('11 before the certificates', ORDER, '(header_refused, input_length, out
 
 def input_length(''')
 misread('13: the word as received in its place', 'if kind == 3 and nearest(sheet, as_mask(given)) is None:', 'if False:',
-        'right = nearest(sheet, mask)', 'right = nearest(sheet, mask) or mask')
+        'right = nearest(sheet, mask)', 'right = mask if nearest(sheet, mask) is None else nearest(sheet, mask)')
 misread('13 and 14 swapped', 'return 13', 'return 14 ', 'return 14\n', 'return 13\n')
 misread('14: a word that is no codeword read out', 'if kind == 2 and rest(', 'if kind == 0 and rest(')
 REFUSED = "return 'refused', number, out"

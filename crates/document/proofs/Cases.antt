@@ -1,12 +1,12 @@
 -- The twelve cases of document 01, "Known sheets and words", as one table that the definitions hold; the fourteen examples of
--- its table of refusals as a second; and the listing of sheet H.
+-- its table of refusals as a second; and listings.
 --
 --   sheetH, sheetE, sheetS, sheetB      the known sheets, in bytes
 --   facts, encodes, decodes             what the definitions say, as numbers
 --   said, expected, cases-hold          the twelve cases: what the definitions say is what document 01 says
 --   refusals-hold                       the examples of "Refused, by number", 1 to 14, by their numbers
 --   near-hold                           near misses: each row with the misreadings that it catches
---   listing-holds                       the listing of sheet H, byte for byte
+--   listings-hold                       the listing of sheet H and of three others, byte for byte
 -- Where document 01 abbreviates an example of a refusal, the sheet is H with what is said changed.
 use mathlib.Core.Path.{_≡_, refl}
 use mathlib.Core.List.{List, [], _∷_, _++_, flatMap}
@@ -193,6 +193,7 @@ near =
     ∷ record-of (oneCertificate 7 (1 ∷ 1 ∷ []) 1 1 3 1 2)  -- a representative may be that before it
     ∷ record-of (oneCertificate 7 (3 ∷ 1 ∷ 0 ∷ []) 1 1 3 1 2)  -- a representative may be below that before it; 6 tried before 5
     ∷ record-of (sheetOf 7 [] (certificateOf 0 1 7 0 2 1) 18 1)  -- R = 0 refused; a term that is 0 held to D
+    ∷ (generatorOf (stated (sheetB 4)) ∷ decodes (sheetB 4) 466)  -- another root of order n for α: with α^14 the generator is 279
     ∷ answered (encodeOf (oneCertificate 9 (0 ∷ []) 0 1 3 1 1) (1 ∷ []) (0xAA ∷ 0xBB ∷ []))  -- a byte more for k = 8, or one less for n = 9
     ∷ answered (encodeOf sheetH (0x12 ∷ []) (0xAA ∷ []))  -- a message's spare bits taken from n on, not from k; the output written beside 12
     ∷ answered (readOf sheetH (11 ∷ []) (0xAA ∷ []))  -- the message taken from the low places; every word refused
@@ -221,6 +222,7 @@ near-hold : near
     ∷ (5 ∷ [])
     ∷ (5 ∷ [])
     ∷ (0 ∷ 7 ∷ 7 ∷ 3 ∷ 0 ∷ 1 ∷ 0 ∷ 1 ∷ [])
+    ∷ (465 ∷ 0 ∷ 2 ∷ 465 ∷ [])
     ∷ (0 ∷ 0 ∷ 3 ∷ 0 ∷ [])
     ∷ (12 ∷ 0xAA ∷ [])
     ∷ (0 ∷ 0 ∷ 1 ∷ [])
@@ -231,16 +233,39 @@ near-hold : near
     ∷ (13 ∷ 0xAA ∷ [])
     ∷ (11 ∷ 0xAA ∷ [])
     ∷ []
-unfolding near record-of answered twoCertificates certificateOf sheetH sheetE sheetS oneCertificate sheetOf cardEntry cardConditions definitions
+unfolding near record-of answered decodes twoCertificates certificateOf sheetH sheetE sheetS sheetB oneCertificate sheetOf cardEntry cardConditions definitions
 near-hold = refl
 
--- ---- the listing
--- code 7 4 3, zeros 1 2 4, generator 1101, cert 0 terms 2 distance 3, radius 1 from cert 0
-listing-holds : listing sheetH
-    ≡ 99 ∷ 111 ∷ 100 ∷ 101 ∷ 32 ∷ 55 ∷ 32 ∷ 52 ∷ 32 ∷ 51 ∷ 10
+-- ---- the listing: that of document 01, and rows beside which stand the misreadings that they catch
+listings : List (List ℕ)
+listings =
+    listing sheetH
+    ∷ listing (twoCertificates 15 (1 ∷ 3 ∷ []) (certificateOf 1 1 3 0 1 2) (certificateOf 1 1 3 0 1 4))  -- the first named as the working one; one line for all certificates; numbers of one digit alone
+    ∷ listing (sheetOf 7 [] (certificateOf 0 1 7 0 2 1) 18 1)  -- a space after `zeros` where D is empty
+    ∷ listing (sheetS 10)  -- another word than `refused`, two spaces, the digits of 10 the other way
+    ∷ []
+
+-- code 7 4 3, zeros 1 2 4, generator 1101, cert 0 terms 2 distance 3, radius 1 from cert 0;
+-- code 15 7 4, zeros 1 2 3 4 6 8 9 12, generator 100010111, cert 0 terms 2 distance 3, cert 1 terms 4 distance 5, radius 2 from cert 1;
+-- code 7 7 3, zeros, generator 1, cert 0 terms 1 distance 1, radius 0 from cert 0; refused 10
+listings-hold : listings
+    ≡ (99 ∷ 111 ∷ 100 ∷ 101 ∷ 32 ∷ 55 ∷ 32 ∷ 52 ∷ 32 ∷ 51 ∷ 10
     ∷ 122 ∷ 101 ∷ 114 ∷ 111 ∷ 115 ∷ 32 ∷ 49 ∷ 32 ∷ 50 ∷ 32 ∷ 52 ∷ 10
     ∷ 103 ∷ 101 ∷ 110 ∷ 101 ∷ 114 ∷ 97 ∷ 116 ∷ 111 ∷ 114 ∷ 32 ∷ 49 ∷ 49 ∷ 48 ∷ 49 ∷ 10
     ∷ 99 ∷ 101 ∷ 114 ∷ 116 ∷ 32 ∷ 48 ∷ 32 ∷ 116 ∷ 101 ∷ 114 ∷ 109 ∷ 115 ∷ 32 ∷ 50 ∷ 32 ∷ 100 ∷ 105 ∷ 115 ∷ 116 ∷ 97 ∷ 110 ∷ 99 ∷ 101 ∷ 32 ∷ 51 ∷ 10
-    ∷ 114 ∷ 97 ∷ 100 ∷ 105 ∷ 117 ∷ 115 ∷ 32 ∷ 49 ∷ 32 ∷ 102 ∷ 114 ∷ 111 ∷ 109 ∷ 32 ∷ 99 ∷ 101 ∷ 114 ∷ 116 ∷ 32 ∷ 48 ∷ 10 ∷ []
-unfolding listingOf listingFor acceptedLines codeLine zerosLine generatorLine certificateLine radiusLine refusedLine decimal decimalIn sheetH oneCertificate sheetOf definitions
-listing-holds = refl
+    ∷ 114 ∷ 97 ∷ 100 ∷ 105 ∷ 117 ∷ 115 ∷ 32 ∷ 49 ∷ 32 ∷ 102 ∷ 114 ∷ 111 ∷ 109 ∷ 32 ∷ 99 ∷ 101 ∷ 114 ∷ 116 ∷ 32 ∷ 48 ∷ 10 ∷ [])
+    ∷ (99 ∷ 111 ∷ 100 ∷ 101 ∷ 32 ∷ 49 ∷ 53 ∷ 32 ∷ 55 ∷ 32 ∷ 52 ∷ 10
+    ∷ 122 ∷ 101 ∷ 114 ∷ 111 ∷ 115 ∷ 32 ∷ 49 ∷ 32 ∷ 50 ∷ 32 ∷ 51 ∷ 32 ∷ 52 ∷ 32 ∷ 54 ∷ 32 ∷ 56 ∷ 32 ∷ 57 ∷ 32 ∷ 49 ∷ 50 ∷ 10
+    ∷ 103 ∷ 101 ∷ 110 ∷ 101 ∷ 114 ∷ 97 ∷ 116 ∷ 111 ∷ 114 ∷ 32 ∷ 49 ∷ 48 ∷ 48 ∷ 48 ∷ 49 ∷ 48 ∷ 49 ∷ 49 ∷ 49 ∷ 10
+    ∷ 99 ∷ 101 ∷ 114 ∷ 116 ∷ 32 ∷ 48 ∷ 32 ∷ 116 ∷ 101 ∷ 114 ∷ 109 ∷ 115 ∷ 32 ∷ 50 ∷ 32 ∷ 100 ∷ 105 ∷ 115 ∷ 116 ∷ 97 ∷ 110 ∷ 99 ∷ 101 ∷ 32 ∷ 51 ∷ 10
+    ∷ 99 ∷ 101 ∷ 114 ∷ 116 ∷ 32 ∷ 49 ∷ 32 ∷ 116 ∷ 101 ∷ 114 ∷ 109 ∷ 115 ∷ 32 ∷ 52 ∷ 32 ∷ 100 ∷ 105 ∷ 115 ∷ 116 ∷ 97 ∷ 110 ∷ 99 ∷ 101 ∷ 32 ∷ 53 ∷ 10
+    ∷ 114 ∷ 97 ∷ 100 ∷ 105 ∷ 117 ∷ 115 ∷ 32 ∷ 50 ∷ 32 ∷ 102 ∷ 114 ∷ 111 ∷ 109 ∷ 32 ∷ 99 ∷ 101 ∷ 114 ∷ 116 ∷ 32 ∷ 49 ∷ 10 ∷ [])
+    ∷ (99 ∷ 111 ∷ 100 ∷ 101 ∷ 32 ∷ 55 ∷ 32 ∷ 55 ∷ 32 ∷ 51 ∷ 10
+    ∷ 122 ∷ 101 ∷ 114 ∷ 111 ∷ 115 ∷ 10
+    ∷ 103 ∷ 101 ∷ 110 ∷ 101 ∷ 114 ∷ 97 ∷ 116 ∷ 111 ∷ 114 ∷ 32 ∷ 49 ∷ 10
+    ∷ 99 ∷ 101 ∷ 114 ∷ 116 ∷ 32 ∷ 48 ∷ 32 ∷ 116 ∷ 101 ∷ 114 ∷ 109 ∷ 115 ∷ 32 ∷ 49 ∷ 32 ∷ 100 ∷ 105 ∷ 115 ∷ 116 ∷ 97 ∷ 110 ∷ 99 ∷ 101 ∷ 32 ∷ 49 ∷ 10
+    ∷ 114 ∷ 97 ∷ 100 ∷ 105 ∷ 117 ∷ 115 ∷ 32 ∷ 48 ∷ 32 ∷ 102 ∷ 114 ∷ 111 ∷ 109 ∷ 32 ∷ 99 ∷ 101 ∷ 114 ∷ 116 ∷ 32 ∷ 48 ∷ 10 ∷ [])
+    ∷ (114 ∷ 101 ∷ 102 ∷ 117 ∷ 115 ∷ 101 ∷ 100 ∷ 32 ∷ 49 ∷ 48 ∷ 10 ∷ [])
+    ∷ []
+unfolding listings listingOf listingFor acceptedLines codeLine zerosLine generatorLine certificateLine radiusLine refusedLine decimal decimalIn twoCertificates certificateOf sheetH sheetS oneCertificate sheetOf definitions
+listings-hold = refl

@@ -32,7 +32,7 @@ use Rattle.document.specs.Coset.{dimension}
 use Rattle.document.specs.Generator.{generator, Codeword, encodeMask, messageOf, differences, nearest}
 use Rattle.document.specs.Certificate.{distance, radius}
 use Rattle.document.proofs.Theory.{Length, codeOf}
-use Rattle.document.proofs.Demand2.{codeword-iff, encode-is-codeword, encode-lt, message-lt, codeword-is-encoding}
+use Rattle.document.proofs.Encoding.{codeword-iff, encode-is-codeword, encode-lt, message-lt, codeword-is-encoding}
 use Rattle.certificate.proofs.RulesHeld.{Sound, theory, distance-is, radius-is}
 
 -- ---- places in which two words differ

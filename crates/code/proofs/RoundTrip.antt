@@ -36,7 +36,7 @@ use Rattle.document.proofs.Sane.{settle-number}
 use Rattle.document.proofs.Theory.{Length}
 use Rattle.document.proofs.Chain.{Quiet, first-quiet, first-keep}
 use Rattle.document.proofs.Acceptance.{judgeBy, accepted-iff, judge-number, judge-le}
-use Rattle.document.proofs.Demand2.{multiple-iff, defining-iff, representatives-iff, encode-is-codeword, encode-systematic, encode-checks, encode-lt, message-lt, codeword-is-encoding}
+use Rattle.document.proofs.Encoding.{multiple-iff, defining-iff, representatives-iff, encode-is-codeword, encode-systematic, encode-checks, encode-lt, message-lt, codeword-is-encoding}
 use Rattle.codeword.proofs.Places.{Weights, word-weights, message-weights, mask-lt, mask-coefficient, for-le, spare-clear, bytes-length, bytes-place, mask-of-bytes, bytes-of-mask}
 use Rattle.codeword.specs.Codewords.{Usable, RemainderTested}
 use Rattle.binary.specs.Bits.{Holds}

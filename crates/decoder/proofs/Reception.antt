@@ -29,7 +29,7 @@ use Rattle.document.specs.Sheet.{Certificate}
 use Rattle.document.specs.Coset.{inSet}
 use Rattle.document.specs.Generator.{valueAt}
 use Rattle.document.proofs.Theory.{Length, degree, of-T, root-mod}
-use Rattle.document.proofs.Demand2.{value-is}
+use Rattle.document.proofs.Encoding.{value-is}
 use Rattle.certificate.proofs.RulesHeld.{Sound, in-range, covered-here, register-digit, theory}
 use Rattle.poly.specs.Slice.{Small, Short, series}
 use Rattle.binary.specs.Bits.{Holds}

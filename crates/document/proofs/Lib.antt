@@ -9,7 +9,7 @@ pub mod Chain
 pub mod Acceptance
 pub mod Settled
 pub mod GeneratorIs
-pub mod Demand2
+pub mod Encoding
 pub mod Join
 pub mod Meaning
 pub mod CardIs

@@ -15,7 +15,7 @@ use Rattle.field.specs.Mask.{_⊕_}
 use Rattle.field.specs.Field.{orderOfTwo, ω, α, fieldPower}
 use Rattle.field.proofs.Xor.{⊕-self, ⊕-eq}
 use Rattle.document.specs.Generator.{valueBelow, valueAt}
-use Rattle.document.proofs.Demand2.{representatives-iff}
+use Rattle.document.proofs.Encoding.{representatives-iff}
 use Rattle.syndrome.specs.Sums.{sumOver, Listed, Valuable}
 use Rattle.syndrome.proofs.ValueSums.{value-of}
 use Rattle.syndrome.proofs.Roots.{root-by, value-all}

@@ -23,7 +23,7 @@ use Rattle.field.specs.Field.{orderOfTwo, ω, α, fieldPower}
 use Rattle.field.proofs.Search.{true-ne-false}
 use Rattle.field.proofs.Primitive.{Degree-bounds}
 use Rattle.document.specs.Generator.{valueBelow, valueAt}
-use Rattle.document.proofs.Demand2.{representatives-iff}
+use Rattle.document.proofs.Encoding.{representatives-iff}
 use Rattle.binary.specs.Bits.{Holds}
 use Rattle.syndrome.specs.Columns.{Columnable, Columned, Summable, Valued}
 use Rattle.syndrome.proofs.ValueSums.{value-of}

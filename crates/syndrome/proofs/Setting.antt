@@ -20,7 +20,7 @@ use Rattle.field.proofs.Xor.{⊕-lt}
 use Rattle.document.specs.Generator.{valueAt}
 use Rattle.document.specs.Coset.{inSet}
 use Rattle.document.proofs.Theory.{Length, of-T, represented}
-use Rattle.document.proofs.Demand2.{below-lt, value-is}
+use Rattle.document.proofs.Encoding.{below-lt, value-is}
 use Rattle.syndrome.proofs.Roots.{q-pos, root-lt}
 use Rattle.syndrome.specs.Value.{Evaluable}
 

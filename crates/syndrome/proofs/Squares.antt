@@ -19,7 +19,7 @@ use Rattle.cyclic.proofs.Coset as Coset
 use Rattle.document.specs.Generator.{valueAt}
 use Rattle.document.proofs.Cosets.{turn-back, walk-start, walk-more}
 use Rattle.document.proofs.Theory.{degree, root-mod}
-use Rattle.document.proofs.Demand2.{value-is}
+use Rattle.document.proofs.Encoding.{value-is}
 use Rattle.syndrome.specs.Value.{valueOf, Conjugable, Conjugated}
 use Rattle.syndrome.proofs.Setting.{value-lt}
 

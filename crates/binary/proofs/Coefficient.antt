@@ -5,6 +5,7 @@
 --   combine t f n               the sum of t_i x^i f over i below n
 --   combine-z, combine-s        term by term
 --   coefficient-combine         its coefficient j, for n up to j + 1
+--   below-is                    a product of masks as such a sum
 use mathlib.Core.Path.{_≡_, refl, sym, ap, ap₂, _∙_}
 use Prim.Native.Nat.{ℕ, zero, suc, _+_, _-_, _*_, _/_, _%_, _^_, _≤_, _<_}
 use native.Mathlib.Nat.{zero-mul, one-mul, zero-div}
@@ -73,7 +74,7 @@ module _ (t : ℕ → ℕ) (two : (i : ℕ) → t i < 2) (f : ℕ) where
           digit (λ x. (c : ℕ) → c < 2 → x * c ≡ c * x % 2) (digit (λ c. 0 * c ≡ c * 0 % 2) refl refl)
           (digit (λ c. 1 * c ≡ c * 1 % 2) refl refl)
 
-below-is : (a b n : ℕ) → productBelow n a b ≡ combine (λ i. coefficient i a) b n
+pub below-is : (a b n : ℕ) → productBelow n a b ≡ combine (λ i. coefficient i a) b n
 unfolding productBelow combine
 below-is a b zero = refl
 below-is a b (suc n) = ap (λ (x : ℕ). x ⊕ coefficient n a * (b * 2 ^ n)) (below-is a b n)

@@ -1,7 +1,10 @@
 -- What the searches of Factor.antt mean, in both directions, with no search.
 --
 --   coprime-iff                no number above 1 divides both
+--   product-coefficient        coefficient j of the product d·q: the sum of d_(j - i) q_i over i up to j, modulo 2
 --   mask-iff                   the mask d divides a
+--   factor-iff                 that is, some q makes every such sum the coefficient of a
+--   pow-one                    x^p + 1 as a number
 --   common-iff                 a mask above 1, so of degree 1 or more, divides both
 --   period-divisor, period-least, period-unique      f divides x^p + 1 for p = period f, for no smaller p above 0, and no other p is such
 --                              (that p is above 0 is period-pos of MaskPeriod.antt)
@@ -10,22 +13,25 @@ use mathlib.Core.Path.{_≡_, refl, sym, ap, ap₂, _∙_}
 use mathlib.Core.Logic.{_↔_}
 use mathlib.Core.Bool.{Bool, true, false, _&&_}
 use Prim.Native.Nat.{ℕ, zero, suc, _+_, _-_, _*_, _/_, _%_, _^_, _≤_, _<_, _∣_}
-use native.Mathlib.Nat.{mod-eq-zero-of-dvd, dvd-of-mod-eq-zero, one-mul, div-one}
+use native.Mathlib.Nat.{mod-eq-zero-of-dvd, dvd-of-mod-eq-zero, one-mul, div-one, mul-assoc, pow-suc}
 use native.Mathlib.Decide.{decLt, ℕ-discrete}
 use native.Mathlib.Omega.{arith}
+use lib.Pow.{pow-mono}
 use borrow.Author.Tests.{eqb-true, eq-eqb}
 use Rattle.field.specs.Search.{upTo, some, total}
-use Rattle.field.specs.Mask.{_⊕_, coefficient, size, remainder}
+use Rattle.field.specs.Mask.{_⊕_, coefficient, size, clmul, remainder}
 use Rattle.field.proofs.Search.{true-ne-false, some-at, some-of, total-s, total-ext}
-use Rattle.field.proofs.Xor.{digit-lt}
-use Rattle.field.proofs.MaskProduct.{size-lt}
+use Rattle.field.proofs.Xor.{digit-lt, ⊕-zero-r, ⊕-split, bit-⊕, bit-ext}
+use Rattle.field.proofs.MaskProduct.{size-lt, product-enough, clmul-comm}
 use Rattle.cyclic.proofs.Division.{_∣ₘ_, divides-iff}
 use Rattle.cyclic.proofs.MaskGcd.{divisor-le}
 use Rattle.binary.specs.Factor.{coprime, degree, divides, common, period, Modulus}
 use Rattle.binary.proofs.Degree.{degree-top}
 use Rattle.binary.proofs.Coprime.{both-yes, both-at, shared, none}
 use Rattle.binary.proofs.MaskPeriod.{one-iff, period-divides, period-pos, period-least as period-before}
+use Rattle.binary.proofs.Coefficient.{combine, combine-s, coefficient-combine, below-is}
 use Rattle.binary.proofs.Series.{register, term-is}
+use Rattle.binary.proofs.Sums.{shift-low}
 
 is-false : (b : Bool) → ¬ (b ≡ true) → b ≡ false
 is-false true h = absurd (h refl)
@@ -40,11 +46,47 @@ coprime-iff a b = (
 )
 
 -- ---- masks
+-- terms past x^j change no coefficient up to j
+terms-past : (t : ℕ → ℕ) (f j m : ℕ) → coefficient j (combine t f (suc j + m)) ≡ coefficient j (combine t f (suc j))
+terms-past t f j zero = let e : suc j + 0 ≡ suc j = omega arith in ap (λ (k : ℕ). coefficient j (combine t f k)) e
+terms-past t f j (suc m) =
+    let n : ℕ = suc j + m in
+    let e : suc j + suc m ≡ suc n = omega arith in
+    ap (λ (k : ℕ). coefficient j (combine t f k)) e ∙ ap (λ (x : ℕ). coefficient j x) (combine-s t f n)
+    ∙ bit-⊕ j (combine t f n) (t n * (f * 2 ^ n))
+    ∙ ap₂ _⊕_ (terms-past t f j m)
+    (ap (λ (x : ℕ). coefficient j x) (sym (mul-assoc (t n) f (2 ^ n))) ∙ shift-low (t n * f) n j (omega arith))
+    ∙ ⊕-zero-r (coefficient j (combine t f (suc j)))
+
+pub product-coefficient : (d q j : ℕ) → coefficient j (clmul d q) ≡ total (suc j) (λ i. coefficient (j - i) d * coefficient i q) % 2
+product-coefficient d q j =
+    let n : ℕ = suc j + size q in
+    let l : 2 ^ size q ≤ 2 ^ n = let m : size q ≤ n = omega arith in pow-mono m in
+    let b : q < 2 ^ n = omega (arith, size-lt q) in
+    ap (λ (x : ℕ). coefficient j x) (clmul-comm d q ∙ sym (product-enough n q d b) ∙ below-is q d n)
+    ∙ terms-past (λ i. coefficient i q) d j (size q)
+    ∙ coefficient-combine (λ i. coefficient i q) (λ i. digit-lt (q / 2 ^ i)) d j (suc j) (omega arith)
+
 pub mask-iff : (d a : ℕ) → 0 < d → (divides d a ≡ true) ↔ (d ∣ₘ a)
 unfolding divides
 mask-iff d a h =
     let w = divides-iff (degree d) d (degree-top d h) a in
     (λ e. w .1 (eqb-true (remainder (degree d) d a) 0 e), λ x. eq-eqb (remainder (degree d) d a) 0 (w .0 x))
+
+pub factor-iff : (d a : ℕ)
+    → (d ∣ₘ a) ↔ ((q : ℕ) × ((j : ℕ) → total (suc j) (λ i. coefficient (j - i) d * coefficient i q) % 2 ≡ coefficient j a))
+factor-iff d a = (
+  λ w. (w .0, λ j. sym (ap (λ (x : ℕ). coefficient j x) (w .1) ∙ product-coefficient d (w .0) j)),
+  λ w. (w .0, bit-ext (λ j. sym (product-coefficient d (w .0) j ∙ w .1 j))),
+)
+
+pub pow-one : (p : ℕ) → 0 < p → 2 ^ p ⊕ 1 ≡ 2 ^ p + 1
+pow-one zero h = absurd (omega arith)
+pow-one (suc m) h =
+    let e : 2 ^ suc m ≡ 2 ^ m * 2 = pow-suc 2 m in
+    let high : 2 ^ suc m ≡ (2 ^ suc m + 1) / 2 * 2 = omega arith in
+    let low : 1 ≡ (2 ^ suc m + 1) % 2 = omega arith in
+    ap₂ _⊕_ high low ∙ ⊕-split (2 ^ suc m + 1)
 
 and-both : (p q : Bool) → p && q ≡ true → (p ≡ true) × (q ≡ true)
 and-both true q e = (refl, e)

@@ -13,9 +13,9 @@ use mathlib.Core.Logic.{_≢_, _↔_, _⊎_}
 use mathlib.Core.List.{List, [], _∷_, _++_}
 use Prim.Native.Nat.{ℕ, _+_, _-_, _*_, _/_, _%_, _^_, _≤_, _<_, _∣_}
 use lib.ListN.{length, getD, drop}
+use Rattle.field.specs.Search.{total}
 use Rattle.field.specs.Mask.{coefficient}
 use Rattle.field.specs.Field.{orderOfTwo}
-use Rattle.cyclic.proofs.Division.{_∣ₘ_}
 use Rattle.document.specs.Answer.{Answer, returned, refused, firstOf}
 use Rattle.document.specs.Layout.{wordWeight, messageWeight, maskOf}
 use Rattle.document.specs.Sheet.{Stated, certificateAt}
@@ -25,13 +25,14 @@ use Rattle.document.specs.Judge.{certificateConditions, dimensionOf, workingOf,
 use Rattle.document.specs.Entry.{generatorOf, radiusOf, wordOf}
 use Rattle.document.specs.Card.{refusedLine, acceptedLines}
 use Rattle.document.specs.Short.{stated, judgeOf, encodeOf, readOf, decodeOf, listing, cardOf}
+use Rattle.document.proofs.Meaning.{differ-count}
 use Rattle.codeword.proofs.Places.{mask-lt}
-use Rattle.code.specs.Published.{IsAccepted, SheetRead, Bytes, Word, Message, CodewordOf, InDefiningSet, ZeroAt, changes, Published, Rounded, WorkingIs}
+use Rattle.code.specs.Published.{IsAccepted, SheetRead, Bytes, Word, Message, CodewordOf, InDefiningSet, SetSize, Divides, ZeroAt, changes, Published, Rounded, WorkingIs}
 use Rattle.code.specs.Published.{Systematic, WordDecoded}
 use Rattle.code.specs.Table.{NoneNear, NoneNearSaid, NoCodewordSaid, sheetTurns, encodeTurns, readTurns, decodeTurns, cardTurns, Answered}
 use Rattle.code.proofs.Tried.{judge-answered, encode-answered, read-answered, decode-answered, card-answered}
 use Rattle.code.proofs.Refusing.{read-sheet-bytes, sheet-first, card-writes, text-refused-iff, text-listed-iff, thirteen-iff, fourteen-iff}
-use Rattle.code.proofs.Worded.{word-place, mask-word, word-one, degree-said, certificate-published, accepted-published, rounded-said, distance-said, working-said}
+use Rattle.code.proofs.Worded.{word-place, mask-word, word-one, degree-said, dimension-said, certificate-published, accepted-published, rounded-said, distance-said, working-said}
 use Rattle.code.proofs.Worded.{record-said, apart-said, multiple-said, zeros-said, encodes-said, reads-said, refused-said}
 use Rattle.code.proofs.Worded.{found-said, decoded-said, none-said}
 
@@ -93,8 +94,12 @@ module _ (sheet : List ℕ) where
     pub word-one : (v w : List ℕ) → Word x v → Bytes v → Word x w → Bytes w → wordOf x v ≡ wordOf x w → v ≡ w
     -- "s is the smallest number above 0 with n dividing 2^s - 1."
     pub degree : IsAccepted sheet → (0 < s) × (x .n ∣ 2 ^ s - 1) × ((q : ℕ) → 0 < q → x .n ∣ 2 ^ q - 1 → s ≤ q)
+    -- "k = n - (size of D)"
+    pub dimension : IsAccepted sheet → (k ≤ x .n) × SetSize (x .n) (x .representatives) (x .n - k)
+    -- "Two words of one length differ in a place where one has 1 and the other 0. Spare bits are no places."
+    pub differ : (c c′ : ℕ) → differences (x .n) c c′ ≡ total (x .n) (λ i. (coefficient i c + coefficient i c′) % 2)
     -- a word is a codeword ⟺ it is a multiple of the generator
-    pub multiple : IsAccepted sheet → (word : List ℕ) → CodewordOf x (wordOf x word) ↔ (generatorOf x ∣ₘ wordOf x word)
+    pub multiple : IsAccepted sheet → (word : List ℕ) → CodewordOf x (wordOf x word) ↔ Divides (generatorOf x) (wordOf x word)
     -- ⟺ it is 0 at α^i for every i in D
     pub zeros : IsAccepted sheet → (word : List ℕ)
         → CodewordOf x (wordOf x word) ↔ ((i : ℕ) → InDefiningSet (x .n) (x .representatives) i → ZeroAt x i (wordOf x word))
@@ -169,6 +174,8 @@ demand-2 sheet = record {
   mask-word = mask-word (stated sheet);
   word-one = word-one (stated sheet);
   degree = degree-said sheet;
+  dimension = dimension-said sheet;
+  differ = differ-count (stated sheet .n);
   multiple = multiple-said sheet;
   zeros = zeros-said sheet;
   encodes = encodes-said sheet;

@@ -15,7 +15,8 @@ use native.Mathlib.Omega.{arith}
 use lib.Dec.{eqb}
 use lib.ListN.{getD}
 use Rattle.field.specs.Search.{upTo, every}
-use Rattle.field.specs.Mask.{coefficient}
+use Rattle.field.specs.Mask.{_⊕_, coefficient}
+use Rattle.cyclic.proofs.Division.{_∣ₘ_}
 use Rattle.field.specs.Field.{OddLength}
 use Rattle.field.proofs.Search.{every-at, every-of}
 use Rattle.field.proofs.Xor.{digit-lt}
@@ -23,7 +24,7 @@ use Rattle.binary.specs.Factor.{coprime, degree, common, period, terms, Modulus
 use Rattle.binary.proofs.Degree.{degree-of, degree-low, degree-high}
 use Rattle.binary.proofs.MaskPeriod.{period-pos}
 use Rattle.binary.proofs.Series.{register, terms-at}
-use Rattle.binary.proofs.Meaning.{coprime-iff, common-iff, period-divisor, period-least, period-unique, series-product, series-unique}
+use Rattle.binary.proofs.Meaning.{coprime-iff, common-iff, factor-iff, pow-one, period-divisor, period-least, period-unique, series-product, series-unique}
 use Rattle.document.specs.Answer.{firstOf}
 use Rattle.document.specs.Sheet.{Certificate}
 use Rattle.document.specs.Coset.{inSet}
@@ -31,7 +32,7 @@ use Rattle.document.specs.Certificate.{rule1, rule2, rule3, rule4, distance}
 use Rattle.document.specs.Judge.{certificateConditions}
 use Rattle.document.proofs.Reflect.{Says, not-iff, eqb-iff, or-of}
 use Rattle.document.proofs.Meaning.{rule1-iff, set-iff, distance-least}
-use Rattle.code.specs.Published.{HasDegree, Rule1, Rule2, Rule3, Rule4, Published, InDefiningSet, Rounded}
+use Rattle.code.specs.Published.{HasDegree, Divides, Rule1, Rule2, Rule3, Rule4, Published, InDefiningSet, Rounded}
 use Rattle.code.specs.Table.{certificateTurns, lastRefusal}
 use Rattle.code.proofs.InTurn.{Said, stable, said-none, said-append}
 
@@ -104,8 +105,17 @@ module _ {n : ℕ} {c : Certificate} (r : Rule1 n c) where
   rule2-said : Says (rule2 c) (Rule2 c)
   unfolding rule2
   rule2-said =
-      Iff·trans (not-said (common-iff (c .f) (c .h) f-pos))
-      (λ w d l x y. w (d, l, y, x), λ w q. w (q .0) (q .1) (q .3) (q .2))
+      Iff·trans (not-said (common-iff (c .f) (c .h) f-pos)) (
+        λ w d l x y. w (d, l, factor-iff d (c .f) .1 y, factor-iff d (c .h) .1 x),
+        λ w q. w (q .0) (q .1) (factor-iff (q .0) (c .h) .0 (q .3)) (factor-iff (q .0) (c .f) .0 (q .2)),
+      )
+
+  -- f divides x^q + 1, as a mask and as a number
+  period-there : (q : ℕ) → 0 < q → Divides (c .f) (2 ^ q + 1) → c .f ∣ₘ 2 ^ q ⊕ 1
+  period-there q h w = subst (λ (a : ℕ). c .f ∣ₘ a) (sym (pow-one q h)) (factor-iff (c .f) (2 ^ q + 1) .1 w)
+
+  period-back : (q : ℕ) → 0 < q → c .f ∣ₘ 2 ^ q ⊕ 1 → Divides (c .f) (2 ^ q + 1)
+  period-back q h w = factor-iff (c .f) (2 ^ q + 1) .0 (subst (λ (a : ℕ). c .f ∣ₘ a) (pow-one q h) w)
 
   rule3-said : Says (rule3 n c) (Rule3 n c)
   unfolding rule3
@@ -114,12 +124,12 @@ module _ {n : ℕ} {c : Certificate} (r : Rule1 n c) where
         λ e. record {
           p = period (c .f);
           above = period-pos (c .f);
-          divides = period-divisor modulus;
-          smallest = period-least modulus;
+          divides = period-back (period (c .f)) (period-pos (c .f)) (period-divisor modulus);
+          smallest = λ q h w. period-least modulus q h (period-there q h w);
           coprime = w .0 e;
         },
         λ q.
-            let e : q .p ≡ period (c .f) = period-unique modulus (q .p) (q .above) (q .divides) (q .smallest) in
+            let e : q .p ≡ period (c .f) = period-unique modulus (q .p) (q .above) (period-there (q .p) (q .above) (q .divides)) (λ r h w. q .smallest r h (period-back r h w)) in
             w .1 (subst (λ (p : ℕ). (d : ℕ) → 1 < d → d ∣ p → ¬ (d ∣ n)) e (q .coprime)),
       )
 

@@ -26,11 +26,11 @@ use Rattle.document.specs.Entry.{decodeConditions, decodeEntry}
 use Rattle.document.specs.Card.{cardConditions, cardEntry}
 use Rattle.document.specs.Short.{short, stated, refusalsOf, judgeOf, encodeOf, readOf, decodeOf, cardOf}
 use Rattle.document.proofs.Reflect.{Says, not-iff, eqb-iff, not-eq-iff}
-use Rattle.document.proofs.Meaning.{length-iff, code-length-iff, header-iff, representative-iff, degree-iff, spare-iff}
+use Rattle.document.proofs.Meaning.{length-iff, code-length-iff, header-iff, representative-iff, degree-iff, no-message-iff, spare-iff}
 use Rattle.certificate.proofs.Sheets as Sheets
 use Rattle.code.specs.Turns.{Turns, NoneHolds}
 use Rattle.code.specs.Published.{CodewordOf, changes}
-use Rattle.code.specs.Table.{WrongCodeLength, WrongBufferLength, SpareBit, NoneNear, headTurns, sheetTurns, encodeOwn, encodeTurns}
+use Rattle.code.specs.Table.{WrongCodeLength, NoMessage, WrongBufferLength, SpareBit, NoneNear, headTurns, sheetTurns, encodeOwn, encodeTurns}
 use Rattle.code.specs.Table.{readOwn, readTurns, decodeOwn, decodeTurns, cardTurns, lastRefusal, Answered}
 use Rattle.code.proofs.InTurn.{Said, said-none, said-append, answered, judged-answered}
 use Rattle.code.proofs.Rules.{certificates-said}
@@ -51,9 +51,10 @@ module _ (sheet : List ℕ) where
   x = stated sheet
 
   -- ---- 1 to 10
-  message-said : Says (noMessage (x .n) (x .representatives)) (dimensionOf x ≡ 0)
-  unfolding noMessage dimensionOf
-  message-said = eqb-iff (dimension (x .n) (x .representatives)) 0
+  message-said : OddLength (x .n) → Says (noMessage (x .n) (x .representatives)) (NoMessage (x .n) (x .representatives))
+  unfolding noMessage
+  message-said o =
+      Iff·trans (eqb-iff (dimension (x .n) (x .representatives)) 0) (no-message-iff o (x .representatives))
 
   pub head-said : (top : ℕ) → 6 ≤ top → Said top (sheetConditions short sheet) (headTurns sheet)
   unfolding sheetConditions
@@ -82,7 +83,7 @@ module _ (sheet : List ℕ) where
             omega arith,
             refl,
             representative-iff o (x .representatives),
-            λ n₅. (omega arith, omega arith, refl, message-said, λ n₆. tt),
+            λ n₅. (omega arith, omega arith, refl, message-said o, λ n₆. tt),
           ),
         ),
       ),

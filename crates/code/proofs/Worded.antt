@@ -22,10 +22,11 @@ use Rattle.field.specs.Field.{OddLength, orderOfTwo}
 use Rattle.field.proofs.Search.{true-ne-false}
 use Rattle.field.proofs.Xor.{digit-lt}
 use Rattle.field.proofs.OrderOfTwo.{order-pos, order-divides, order-least}
-use Rattle.cyclic.proofs.Division.{_∣ₘ_}
+use Rattle.field.specs.Search.{bit}
 use Rattle.document.specs.Answer.{Answer, returned, refused, firstOf}
 use Rattle.document.specs.Layout.{wordWeight, messageWeight, bytesFor, place, maskOf, bytesOf, spare}
 use Rattle.document.specs.Sheet.{Stated, certificateAt}
+use Rattle.document.specs.Coset.{inSet}
 use Rattle.document.specs.Generator.{isCodeword, messageOf, differences}
 use Rattle.document.specs.Certificate.{distance, radius}
 use Rattle.document.specs.Judge.{sheetConditions, certificateConditions, judgeConditions, dimensionOf, workingOf, workingCertificate, recordOf}
@@ -33,12 +34,13 @@ use Rattle.document.specs.Entry.{generatorOf, radiusOf, wordOf, encodedWord}
 use Rattle.document.specs.Short.{short, stated, refusalsOf, judgeOf, encodeOf, readOf, decodeOf}
 use Rattle.document.proofs.Chain.{first-keep}
 use Rattle.document.proofs.Acceptance.{Rules, judge-number, certificate-iff, accepted-rules, accepted-record}
-use Rattle.document.proofs.Meaning.{set-iff, spare-iff, radius-is, working-iff}
+use Rattle.document.proofs.Meaning.{set-iff, dimension-sum, spare-iff, radius-is, working-iff}
+use Rattle.binary.proofs.Meaning.{factor-iff}
 use Rattle.codeword.proofs.Places.{word-weights, message-weights, mask-lt, mask-coefficient, bytes-lt, mask-of-bytes, bytes-of-mask}
 use Rattle.certificate.proofs.Sheets as Sheets
 use Rattle.certificate.proofs.Decoding as Decoding
 use Rattle.code.specs.Turns.{NoneHolds}
-use Rattle.code.specs.Published.{IsAccepted, Places, Bytes, Word, Message, CodewordOf, InDefiningSet, ZeroAt, changes, Published, Rounded, WorkingIs}
+use Rattle.code.specs.Published.{IsAccepted, Places, Bytes, Word, Message, CodewordOf, InDefiningSet, SetSize, Divides, ZeroAt, changes, Published, Rounded, WorkingIs}
 use Rattle.code.specs.Published.{Systematic, WordDecoded}
 use Rattle.code.specs.Table.{NoneNear, headTurns}
 use Rattle.code.proofs.InTurn.{said-none, said-le, said-quiet}
@@ -156,6 +158,25 @@ module _ (sheet : List ℕ) where
           ],
         )
 
+    -- k is n less the size of D
+    pub dimension-said : (dimensionOf x ≤ x .n) × SetSize (x .n) (x .representatives) (x .n - dimensionOf x)
+    unfolding dimensionOf
+    dimension-said =
+        let n : ℕ = x .n in
+        let s = dimension-sum (x .n) (x .representatives) in (
+          omega (arith, s),
+          record {
+            mark = λ i. bit (inSet (x .n) (x .representatives) i);
+            marks = λ i l. marked i (inSet (x .n) (x .representatives) i) refl;
+            sum = omega (arith, s);
+          },
+        )
+      where
+        marked : (i : ℕ) (b : Bool) → inSet (x .n) (x .representatives) i ≡ b
+            → ((bit b ≡ 1) × InDefiningSet (x .n) (x .representatives) i) ⊎ ((bit b ≡ 0) × ¬ InDefiningSet (x .n) (x .representatives) i)
+        marked i true q = inl (refl, set-iff (odd (inl e)) (x .representatives) i .0 q)
+        marked i false q = inr (refl, λ m. true-ne-false (set-iff (odd (inl e)) (x .representatives) i .1 m) q)
+
     pub working-said : WorkingIs x (workingOf x) (distance (workingCertificate x)) (radiusOf x)
     unfolding workingOf workingCertificate radiusOf
     working-said =
@@ -181,9 +202,10 @@ module _ (sheet : List ℕ) where
     apart-said c d v w ne = distance-said (workingOf x) (working-said .below) c d v w ne
 
     -- ---- codewords
-    pub multiple-said : (word : List ℕ) → CodewordOf x (wordOf x word) ↔ (generatorOf x ∣ₘ wordOf x word)
+    pub multiple-said : (word : List ℕ) → CodewordOf x (wordOf x word) ↔ Divides (generatorOf x) (wordOf x word)
     multiple-said word =
-        Iff·trans (Iff·symm (codeword-said sheet word)) (RoundTrip.codeword-multiple short sheet (omega arith) e (wordOf x word))
+        Iff·trans (Iff·symm (codeword-said sheet word))
+        (Iff·trans (RoundTrip.codeword-multiple short sheet (omega arith) e (wordOf x word)) (factor-iff (generatorOf x) (wordOf x word)))
 
     pub zeros-said : (word : List ℕ)
         → CodewordOf x (wordOf x word) ↔ ((i : ℕ) → InDefiningSet (x .n) (x .representatives) i → ZeroAt x i (wordOf x word))

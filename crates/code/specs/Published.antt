@@ -3,8 +3,8 @@
 --   IsAccepted sheet                 judging refuses nothing
 --   CertificateRead, SheetRead     what a sheet's bytes state
 --   Places, Bytes, Word, Message   words and messages in bytes
---   CodewordOf, InDefiningSet, ZeroAt, changes      codewords, D, a mask's value at α^i, and changed places
---   HasDegree, Coprime             the degree of a mask; no number above 1 divides both
+--   CodewordOf, InDefiningSet, SetSize, ZeroAt, changes      codewords, D and its size, a mask's value at α^i, and changed places
+--   HasDegree, Divides, Coprime    the degree of a mask; d divides a; no number above 1 divides both
 --   Rule1 .. Rule4, Published      the rules of a certificate
 --   Rounded, WorkingIs             d, and the working certificate with d and t
 --   Systematic, WordDecoded            what encoding and decoding write
@@ -15,9 +15,8 @@ use mathlib.Core.List.{List, [], _∷_}
 use Prim.Native.Nat.{ℕ, suc, _+_, _-_, _*_, _/_, _%_, _^_, _≤_, _<_, _∣_}
 use lib.ListN.{length, getD}
 use Rattle.field.specs.Search.{total}
-use Rattle.field.specs.Mask.{_⊕_, coefficient, remainder}
+use Rattle.field.specs.Mask.{coefficient, remainder}
 use Rattle.field.specs.Field.{fieldPower, orderOfTwo, α}
-use Rattle.cyclic.proofs.Division.{_∣ₘ_}
 use Rattle.document.specs.Answer.{Answer}
 use Rattle.document.specs.Layout.{wordWeight, messageWeight, place, maskOf}
 use Rattle.document.specs.Sheet.{Certificate, Stated, certificateAt}
@@ -73,6 +72,12 @@ CodewordOf x c = Codeword (x .n) (x .representatives) c
 abbrev pub InDefiningSet : ℕ → List ℕ → ℕ → Type 0
 InDefiningSet n reps i = (m : ℕ) × (m < length reps) × ((j : ℕ) × (getD reps m 0 * 2 ^ j % n ≡ i))
 
+-- how many numbers below n are in D: as many as a mark of 1 for each, and 0 for the others, amounts to
+pub record SetSize (n : ℕ) (reps : List ℕ) (size : ℕ) : Type 0 where
+  pub mark : ℕ → ℕ
+  pub marks : (i : ℕ) → i < n → ((mark i ≡ 1) × InDefiningSet n reps i) ⊎ ((mark i ≡ 0) × ¬ InDefiningSet n reps i)
+  pub sum : total n mark ≡ size
+
 -- the value of the mask c at α^i is 0
 abbrev pub ZeroAt : Stated → ℕ → ℕ → Type 0
 ZeroAt x i c = let s : ℕ = orderOfTwo (x .n) in valueAt s (fieldPower s (α s (x .n)) i) c ≡ 0
@@ -85,6 +90,10 @@ changes x word c = differences (x .n) (wordOf x word) c
 pub record HasDegree (f u : ℕ) : Type 0 where
   pub low : 2 ^ u ≤ f
   pub high : f < 2 ^ suc u
+
+-- the mask d times some mask q is a: coefficient j of a product is the sum of d's j - i and q's i
+abbrev pub Divides : ℕ → ℕ → Type 0
+Divides d a = (q : ℕ) × ((j : ℕ) → total (suc j) (λ i. coefficient (j - i) d * coefficient i q) % 2 ≡ coefficient j a)
 
 -- no number above 1 divides both
 abbrev pub Coprime : ℕ → ℕ → Type 0
@@ -109,14 +118,14 @@ pub record Rule1 (n : ℕ) (c : Certificate) : Type 0 where
 
 -- "2. h and f have no common factor": no mask of degree 1 or more, which is a number above 1, divides both
 abbrev pub Rule2 : Certificate → Type 0
-Rule2 c = (d : ℕ) → 1 < d → d ∣ₘ c .h → ¬ (d ∣ₘ c .f)
+Rule2 c = (d : ℕ) → 1 < d → Divides d (c .h) → ¬ Divides d (c .f)
 
 -- "3. the period of f, the smallest p above 0 for which f divides x^p + 1, is coprime to n"
 pub record Rule3 (n : ℕ) (c : Certificate) : Type 0 where
   pub p : ℕ
   pub above : 0 < p
-  pub divides : c .f ∣ₘ 2 ^ p ⊕ 1
-  pub smallest : (q : ℕ) → 0 < q → c .f ∣ₘ 2 ^ q ⊕ 1 → p ≤ q
+  pub divides : Divides (c .f) (2 ^ p + 1)
+  pub smallest : (q : ℕ) → 0 < q → Divides (c .f) (2 ^ q + 1) → p ≤ q
   pub coprime : Coprime p n
 
 -- "The sequence a0, a1, .. is the power series h/f over two elements": f times the series a is h.

@@ -19,7 +19,7 @@ use Rattle.document.specs.Judge.{dimensionOf}
 use Rattle.document.specs.Entry.{radiusOf, wordOf}
 use Rattle.document.specs.Short.{byteAt, stated}
 use Rattle.code.specs.Turns.{Turns, FirstThatHolds, NoneHolds}
-use Rattle.code.specs.Published.{IsAccepted, CodewordOf, changes, Rule1, Rule2, Rule3, Rule4}
+use Rattle.code.specs.Published.{IsAccepted, CodewordOf, InDefiningSet, changes, Rule1, Rule2, Rule3, Rule4}
 
 -- 1: "under 10 or over 74 bytes, or bytes 0-1 differ from the true length"
 abbrev pub WrongSheetLength : List ℕ → Type 0
@@ -56,9 +56,9 @@ WrongRepresentative n reps =
     ⊎ (((j : ℕ) × (getD reps i 0 * 2 ^ j % n < getD reps i 0))
     ⊎ ((1 ≤ i) × (getD reps i 0 ≤ getD reps (i - 1) 0))))
 
--- 6: "k is 0"
-abbrev pub NoMessage : Stated → Type 0
-NoMessage x = dimensionOf x ≡ 0
+-- 6: "k is 0", k being n less the size of D: every number below n is in D
+abbrev pub NoMessage : ℕ → List ℕ → Type 0
+NoMessage n reps = (i : ℕ) → i < n → InDefiningSet n reps i
 
 -- 7 to 10: a rule fails
 abbrev pub certificateTurns : ℕ → List ℕ → Certificate → Turns
@@ -82,7 +82,7 @@ headTurns sheet =
     ∷ (3, WrongDegree (x .n))
     ∷ (4, WrongHeader sheet)
     ∷ (5, WrongRepresentative (x .n) (x .representatives))
-    ∷ (6, NoMessage x)
+    ∷ (6, NoMessage (x .n) (x .representatives))
     ∷ []
 
 abbrev pub sheetTurns : List ℕ → Turns

@@ -4,30 +4,36 @@
 --   rule1-iff                  rule 1 of a certificate
 --   set-iff, smallest-iff      D and the smallest of a coset, by all powers of 2
 --   representative-iff, degree-iff      conditions 5 and 3
+--   differ-count               the places in which two words differ, counted
+--   set-count, dimension-sum   the members of D, counted; k is what is left of n
+--   no-message-iff             condition 6: every number below n is in D
 --   spare-iff                  condition 12: a spare bit is 1
 --   distance-least             d is the least number with L + u ≤ d·u + v; radius-is: t by d
 --   working-iff                the first of the largest t
-use mathlib.Core.Path.{_≡_, sym, ap, ap₂, _∙_, subst}
+use mathlib.Core.Path.{_≡_, refl, sym, ap, ap₂, _∙_, subst}
 use mathlib.Core.Logic.{_↔_, _≢_, _⊎_, Iff·trans}
-use mathlib.Core.Bool.{true, not}
-use mathlib.Core.List.{List}
+use mathlib.Core.Bool.{Bool, true, false, not}
+use mathlib.Core.List.{List, [], _∷_}
 use Prim.Native.Nat.{ℕ, zero, suc, _+_, _-_, _*_, _/_, _%_, _^_, _≤_, _<_, _∣_}
 use native.Mathlib.Nat.{mod-eq-zero-of-dvd, div-add-mod, mod-lt, add-mul, mul-comm, one-mul, zero-mul, suc-mul, mul-le-mul-left}
-use native.Mathlib.Decide.{decLt}
+use native.Mathlib.Decide.{decLt, ℕ-discrete}
 use native.Mathlib.Omega.{arith}
 use lib.Dec.{leb}
-use lib.ListN.{length, getD}
+use lib.ListN.{length, getD, length-append}
 use borrow.Author.Tests.{leb-false, le-leb, ltb-true, lt-ltb}
-use Rattle.field.specs.Search.{upTo, every}
-use Rattle.field.specs.Mask.{coefficient}
+use Rattle.field.specs.Search.{upTo, keep, every, total, bit}
+use Rattle.field.specs.Mask.{_⊕_, coefficient}
 use Rattle.field.specs.Field.{OddLength, orderOfTwo}
-use Rattle.field.proofs.Search.{true-ne-false, least-is, every-of}
+use Rattle.field.proofs.Search.{true-ne-false, least-is, keep-suc, every-of, length-upTo, length-keep, total-z, total-s, total-ext}
+use Rattle.field.proofs.Xor.{bit-⊕}
 use Rattle.field.proofs.OrderOfTwo.{order-pos, order-divides, order-least}
 use Rattle.binary.specs.Factor.{degree}
+use Rattle.binary.proofs.Coefficient.{sum-two}
 use Rattle.binary.proofs.Meaning.{coprime-iff}
 use Rattle.document.specs.Layout.{bytesFor, place, spare}
 use Rattle.document.specs.Sheet.{Certificate, wrongLength, wrongCodeLength, wrongHeader}
-use Rattle.document.specs.Coset.{inCoset, smallest, inSet}
+use Rattle.document.specs.Coset.{inCoset, smallest, inSet, definingSet, dimension}
+use Rattle.document.specs.Generator.{differences}
 use Rattle.document.specs.Certificate.{steps, ratio, extent, rule1, distance, radius, working}
 use Rattle.document.specs.Judge.{wrongDegree, wrongRepresentative}
 use Rattle.document.specs.Short.{byteAt, numberAt, short}
@@ -158,6 +164,77 @@ module _ {n : ℕ} (o : OddLength n) where
       | no l ↦ absurd (h (orderOfTwo n) (order-pos n) (omega arith) (order-divides o))
     ],
   )
+
+-- ---- counts
+pub differ-count : (n a b : ℕ) → differences n a b ≡ total n (λ i. (coefficient i a + coefficient i b) % 2)
+unfolding differences
+differ-count n a b = total-ext n (λ i. coefficient i (a ⊕ b)) (λ i. (coefficient i a + coefficient i b) % 2) (λ i h. at i)
+  where
+    at : (i : ℕ) → coefficient i (a ⊕ b) ≡ (coefficient i a + coefficient i b) % 2
+    at i =
+        let e : (a / 2 ^ i + b / 2 ^ i) % 2 ≡ (a / 2 ^ i % 2 + b / 2 ^ i % 2) % 2 = omega arith in
+        bit-⊕ i a b ∙ sum-two (a / 2 ^ i) (b / 2 ^ i) ∙ e
+
+-- how many pass a test
+module _ (test : ℕ → Bool) where
+  keep-last : (x : ℕ) → length (keep test (x ∷ [])) ≡ bit (test x)
+  unfolding keep
+  keep-last x = go (test x)
+    where
+      go : (b : Bool) → length {A = ℕ} (elim b as (λ _. List ℕ) [ true ↦ x ∷ [] | false ↦ [] ]) ≡ bit b
+      go true = refl
+      go false = refl
+
+  keep-count : (n : ℕ) → length (keep test (upTo n)) ≡ total n (λ i. bit (test i))
+  unfolding keep upTo
+  keep-count zero = sym (total-z (λ i. bit (test i)))
+  keep-count (suc n) =
+      ap length (keep-suc test n) ∙ length-append (keep test (upTo n)) (keep test (n ∷ []))
+      ∙ ap₂ _+_ (keep-count n) (keep-last n) ∙ sym (total-s n (λ i. bit (test i)))
+
+  bit-le : (b : Bool) → bit b ≤ 1
+  bit-le true = omega arith
+  bit-le false = omega arith
+
+  bit-one : (b : Bool) → bit b ≡ 1 → b ≡ true
+  bit-one true e = refl
+  bit-one false e = absurd (omega arith)
+
+  count-le : (n : ℕ) → total n (λ i. bit (test i)) ≤ n
+  count-le zero = omega (arith, total-z (λ i. bit (test i)))
+  count-le (suc n) = omega (arith, total-s n (λ i. bit (test i)), count-le n, bit-le (test n))
+
+  all-at : (n : ℕ) → total n (λ i. bit (test i)) ≡ n → (i : ℕ) → i < n → test i ≡ true
+  all-at zero e i h = absurd (omega arith)
+  all-at (suc n) e i h =
+      let s : total (suc n) (λ i. bit (test i)) ≡ total n (λ i. bit (test i)) + bit (test n) = total-s n (λ i. bit (test i)) in
+      let l : total n (λ i. bit (test i)) ≤ n = count-le n in
+      let m : bit (test n) ≤ 1 = bit-le (test n) in
+      elim (ℕ-discrete i n) [
+        | yes q ↦ ap test q ∙ bit-one (test n) (omega arith)
+        | no q ↦ all-at n (omega arith) i (omega arith)
+      ]
+
+  all-of : (n : ℕ) → ((i : ℕ) → i < n → test i ≡ true) → total n (λ i. bit (test i)) ≡ n
+  all-of zero h = total-z (λ i. bit (test i))
+  all-of (suc n) h =
+      let b : bit (test n) ≡ 1 = ap bit (h n (omega arith)) in
+      omega (arith, total-s n (λ i. bit (test i)), all-of n (λ i l. h i (omega arith)))
+
+pub set-count : (n : ℕ) (reps : List ℕ) → length (definingSet n reps) ≡ total n (λ i. bit (inSet n reps i))
+unfolding definingSet
+set-count n reps = keep-count (inSet n reps) n
+
+pub dimension-sum : (n : ℕ) (reps : List ℕ) → dimension n reps + total n (λ i. bit (inSet n reps i)) ≡ n
+unfolding dimension definingSet
+dimension-sum n reps = omega (arith, length-keep (inSet n reps) (upTo n), length-upTo n, keep-count (inSet n reps) n)
+
+pub no-message-iff : {n : ℕ} (o : OddLength n) (reps : List ℕ) → (dimension n reps ≡ 0)
+    ↔ ((i : ℕ) → i < n → (m : ℕ) × (m < length reps) × ((j : ℕ) × (getD reps m 0 * 2 ^ j % n ≡ i)))
+no-message-iff {n} o reps = (
+  λ e i h. set-iff o reps i .0 (all-at (inSet n reps) n (omega (arith, dimension-sum n reps)) i h),
+  λ f. omega (arith, dimension-sum n reps, all-of (inSet n reps) n (λ i h. set-iff o reps i .1 (f i h))),
+)
 
 -- ---- spare bits
 pub spare-iff : (weight : ℕ → ℕ) (n : ℕ) (bytes : List ℕ) → (spare weight n bytes ≡ true)

@@ -1,13 +1,13 @@
 -- The three demands, each one theorem about the entries. This is the file to read first.
 --
--- The contracts of the entries say that reply and bytes are, in document 01's numbers, what judgeOf, encodeOf, readOf, decodeOf and
--- cardOf give (document/specs/Short.antt), whatever is handed over. What is said of these here is therefore said of the entries.
+-- It speaks of judgeOf, encodeOf, readOf, decodeOf and cardOf (document/specs/Short.antt). The contract of each entry is one equation: reply and
+-- bytes are, in document 01's numbers, what these give, whatever is handed over. So what is said of them is said of the entries.
 --
 --   Demand1, demand-1      every answer, and every refusal exactly at its turn
 --   Demand2, demand-2      codewords, encoding and reading out; certificates, and the distance that they yield
 --   Demand3, demand-3      decoding
--- A record for each demand, a field for each clause, under the clause's words. All three are for every sheet of bytes, and in it x is what
--- the sheet states, k and t its k and t. The other words are in specs/Published.antt and specs/Table.antt, with document 01's sentences.
+-- A record for each demand, a field for each clause, under the clause's words. Each is for every list of bytes that may be a sheet; x is
+-- what it states. The words are in specs/Published.antt and specs/Table.antt, under document 01's sentences.
 use mathlib.Core.Path.{_≡_, refl}
 use mathlib.Core.Logic.{_≢_, _↔_, _⊎_}
 use mathlib.Core.List.{List, [], _∷_, _++_}
@@ -32,6 +32,7 @@ use Rattle.code.specs.Published.{Systematic, WordDecoded}
 use Rattle.code.specs.Table.{NoneNear, NoneNearSaid, NoCodewordSaid, sheetTurns, encodeTurns, readTurns, decodeTurns, cardTurns, Answered}
 use Rattle.code.proofs.Tried.{judge-answered, encode-answered, read-answered, decode-answered, card-answered}
 use Rattle.code.proofs.Refusing.{read-sheet-bytes, sheet-first, card-writes, text-refused-iff, text-listed-iff, thirteen-iff, fourteen-iff}
+use Rattle.code.proofs.Fits.{listing-fits}
 use Rattle.code.proofs.Worded.{word-place, mask-word, word-one, degree-said, dimension-said, certificate-published, accepted-published, rounded-said, distance-said, working-said}
 use Rattle.code.proofs.Worded.{record-said, apart-said, multiple-said, zeros-said, encodes-said, reads-said, refused-said}
 use Rattle.code.proofs.Worded.{found-said, decoded-said, none-said}
@@ -72,6 +73,8 @@ module _ (sheet : List ℕ) where
     -- card writes its text, returns the text's length, and leaves what stood after it
     pub card-text : (out : List ℕ) → length out ≡ 1024
         → cardOf sheet out ≡ (returned (length (listing sheet) ∷ []), listing sheet ++ drop (length (listing sheet)) out)
+    -- the text fits
+    pub card-fits : length (listing sheet) ≤ 1024
     -- the text is `refused r` exactly when judging refuses with r
     pub card-refusal : (r : ℕ) → (listing sheet ≡ refusedLine r) ↔ (judgeOf sheet ≡ refused r)
     -- and the listing of the sheet exactly when it is accepted
@@ -159,6 +162,7 @@ demand-1 sheet = record {
   card = card-answered sheet;
   sheet-refusal = sheet-first sheet;
   card-text = card-writes sheet;
+  card-fits = listing-fits sheet;
   card-refusal = text-refused-iff sheet;
   card-listing = text-listed-iff sheet;
   thirteen = thirteen-iff sheet;

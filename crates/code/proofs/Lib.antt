@@ -1,5 +1,8 @@
--- Laws, in reading order: what an accepted sheet of any kind states, judging in stages, the exits of the entries, what an accepted sheet
--- of document 01's kind grants them, and demand 2 in bytes.
+-- Laws, in reading order: the three demands, which all others serve; then what an accepted sheet of any kind states, judging in stages, the
+-- exits of the entries, what an accepted sheet of document 01's kind grants them, and demand 2 in bytes; then what the demands are put
+-- together from: conditions as statements, the rules of a certificate, what each entry tries, single refusals, the listing's length, and
+-- demands 2 and 3 in the words of specs/Published.antt.
+pub mod Demands
 pub mod Accepted
 pub mod Judging
 pub mod Entries
@@ -9,5 +12,5 @@ pub mod InTurn
 pub mod Rules
 pub mod Tried
 pub mod Refusing
+pub mod Fits
 pub mod Worded
-pub mod Demands

@@ -27,15 +27,17 @@ use Rattle.document.specs.Card.{refusedLine, acceptedLines}
 use Rattle.document.specs.Short.{stated, judgeOf, encodeOf, readOf, decodeOf, listing, cardOf}
 use Rattle.document.proofs.Meaning.{differ-count}
 use Rattle.codeword.proofs.Places.{mask-lt}
-use Rattle.code.specs.Published.{IsAccepted, SheetRead, Bytes, Word, Message, CodewordOf, InDefiningSet, SetSize, Divides, ZeroAt, changes, Published, Rounded, WorkingIs}
-use Rattle.code.specs.Published.{Systematic, WordDecoded}
-use Rattle.code.specs.Table.{NoneNear, NoneNearSaid, NoCodewordSaid, sheetTurns, encodeTurns, readTurns, decodeTurns, cardTurns, Answered}
+use Rattle.code.specs.Published.{IsAccepted, SheetRead, Bytes, Word, Message, CodewordOf, InDefiningSet, SetSize, ZeroAt, changes}
+use Rattle.code.specs.Published.{Divides, Published, Rounded, WorkingIs, Systematic, WordDecoded}
+use Rattle.code.specs.Table.{NoneNear, sheetTurns, encodeTurns, readTurns, decodeTurns, cardTurns}
+use Rattle.code.specs.Table.{NoneNearSaid, NoCodewordSaid, Answered}
 use Rattle.code.proofs.Tried.{judge-answered, encode-answered, read-answered, decode-answered, card-answered}
-use Rattle.code.proofs.Refusing.{read-sheet-bytes, sheet-first, card-writes, text-refused-iff, text-listed-iff, thirteen-iff, fourteen-iff}
+use Rattle.code.proofs.Refusing.{read-sheet-bytes, sheet-first, card-writes, text-refused-iff, text-listed-iff}
+use Rattle.code.proofs.Refusing.{thirteen-iff, fourteen-iff}
 use Rattle.code.proofs.Fits.{listing-fits}
-use Rattle.code.proofs.Worded.{word-place, mask-word, word-one, degree-said, dimension-said, certificate-published, accepted-published, rounded-said, distance-said, working-said}
-use Rattle.code.proofs.Worded.{record-said, apart-said, multiple-said, zeros-said, encodes-said, reads-said, refused-said}
-use Rattle.code.proofs.Worded.{found-said, decoded-said, none-said}
+use Rattle.code.proofs.Worded.{word-place, mask-word, word-one, degree-said, dimension-said, multiple-said, zeros-said}
+use Rattle.code.proofs.Worded.{encodes-said, reads-said, refused-said, certificate-published, accepted-published}
+use Rattle.code.proofs.Worded.{rounded-said, distance-said, working-said, record-said, found-said, decoded-said, none-said, apart-said}
 
 module _ (sheet : List ℕ) where
   abbrev x : Stated

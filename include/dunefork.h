@@ -18,12 +18,13 @@
  * The archive is for x86-64 and ELF (Linux), position independent, and calls no function of the C library but memset, memmove
  * and memcpy. There is nothing to set up and nothing to free.
  *
- * Calls. Every call is handed the sheet's bytes and judges the sheet first. Nothing is kept between calls: no heap, no global
+ * Calls. Every call is handed the sheet's bytes and judges the sheet first, dunefork_card after the length of `out`. Nothing is kept between calls: no heap, no global
  * state. Calls from several threads need no lock, as long as no other thread writes to a buffer that a call uses.
  *     Each buffer goes with its length in bytes, and nothing outside is read or written. A length must be exact: an input or an
  * `out` that is too long is refused like one that is too short. A pointer may be any address, also a null one, where its length is 0.
- *     `out` must not overlap the sheet or the input, so a word is not decoded in its own place. If it does, by a single byte, nothing
- * that is said here holds of the call: it may return any number, and read and write outside the buffers. No call looks for that.
+ *     `out` must not overlap the sheet or the input, so a word cannot be decoded in place. If it does, even by one byte, nothing that
+ * is said here holds of the call: it may return any number, and read and write outside the buffers. No call checks for that. The
+ * sheet and the input are only read, and may overlap.
  *     A return of 0 or more says that it is done. A negative one is a refusal, minus the number that document 01 gives it, and
  * then `out` is as it was, every byte of it.
  *

@@ -5,17 +5,17 @@
 --   Sound n reps c    a certificate that meets rules 1 to 4, whatever the largest L; sound-of: by the rules
 --   covered-here      rule 4 term by term
 --   theory            it is one of the theory, over the code of n and reps: distance-is, radius-is
-use mathlib.Core.Path.{_≡_, refl, sym, ap, ap₂, _∙_}
+use mathlib.Core.Path.{_≡_, refl, sym, ap, _∙_}
 use mathlib.Core.Logic.{_≢_, _⊎_, inl, inr}
-use mathlib.Core.Bool.{Bool, true, false, not, _||_, _&&_}
+use mathlib.Core.Bool.{Bool, true, false, not, _||_}
 use mathlib.Core.List.{List}
-use Prim.Native.Nat.{ℕ, zero, suc, _+_, _-_, _*_, _/_, _%_, _^_, _≤_, _<_, _∣_}
+use Prim.Native.Nat.{ℕ, zero, suc, _+_, _-_, _*_, _/_, _%_, _<_}
 use native.Mathlib.Nat.{pos-of-dvd-of-pos}
 use native.Mathlib.Decide.{decLt, ℕ-discrete}
 use native.Mathlib.Omega.{arith}
 use lib.Dec.{T, eqb}
 use lib.ListN.{getD}
-use borrow.Author.Tests.{eqb-true, eq-eqb}
+use borrow.Author.Tests.{eqb-true}
 use Rattle.field.specs.Mask.{_⊕_, clmul}
 use Rattle.field.proofs.Search.{true-ne-false, every-at}
 use Rattle.field.proofs.Xor.{digit-lt}

@@ -7,19 +7,21 @@
 --   Demand2, demand-2      codewords, encoding and reading out; certificates, and the distance that they yield
 --   Demand3, demand-3      decoding
 -- A record for each demand, a field for each clause, under the clause's words. Each is for every list of bytes that may be a sheet; x is
--- what it states. The words are in specs/Published.antt and specs/Table.antt, under document 01's sentences.
-use mathlib.Core.Path.{_≡_, refl}
+-- what it states. The words are in specs/Published.antt and specs/Table.antt, under document 01's sentences. That the field's masks are the smallest
+-- primitive ones is mask-least of field/proofs/Smallest.antt; examples, 13 with a buffer that was not 0 among them, are the tables of
+-- document/proofs/Cases.antt.
+use mathlib.Core.Path.{_≡_}
 use mathlib.Core.Logic.{_≢_, _↔_, _⊎_}
 use mathlib.Core.List.{List, [], _∷_, _++_}
-use Prim.Native.Nat.{ℕ, _+_, _-_, _*_, _/_, _%_, _^_, _≤_, _<_, _∣_}
+use Prim.Native.Nat.{ℕ, _+_, _-_, _/_, _%_, _^_, _≤_, _<_, _∣_}
 use lib.ListN.{length, getD, drop}
 use Rattle.field.specs.Search.{total}
 use Rattle.field.specs.Mask.{coefficient}
 use Rattle.field.specs.Field.{orderOfTwo}
-use Rattle.document.specs.Answer.{Answer, returned, refused, firstOf}
-use Rattle.document.specs.Layout.{wordWeight, messageWeight, maskOf}
+use Rattle.document.specs.Answer.{returned, refused, firstOf}
+use Rattle.document.specs.Layout.{wordWeight, messageWeight, place, maskOf}
 use Rattle.document.specs.Sheet.{Stated, certificateAt}
-use Rattle.document.specs.Generator.{differences}
+use Rattle.document.specs.Generator.{generatorPoly, differences}
 use Rattle.document.specs.Certificate.{distance}
 use Rattle.document.specs.Judge.{certificateConditions, dimensionOf, workingOf, workingCertificate}
 use Rattle.document.specs.Entry.{generatorOf, radiusOf, wordOf}
@@ -28,14 +30,15 @@ use Rattle.document.specs.Short.{stated, judgeOf, encodeOf, readOf, decodeOf, l
 use Rattle.document.proofs.Meaning.{differ-count}
 use Rattle.codeword.proofs.Places.{mask-lt}
 use Rattle.code.specs.Published.{IsAccepted, SheetRead, Bytes, Word, Message, CodewordOf, InDefiningSet, SetSize, ZeroAt, changes}
-use Rattle.code.specs.Published.{Divides, Published, Rounded, WorkingIs, Systematic, WordDecoded}
+use Rattle.code.specs.Published.{HasDegree, Divides, Published, Rounded, WorkingIs, Systematic, WordDecoded}
 use Rattle.code.specs.Table.{NoneNear, sheetTurns, encodeTurns, readTurns, decodeTurns, cardTurns}
 use Rattle.code.specs.Table.{NoneNearSaid, NoCodewordSaid, Answered}
 use Rattle.code.proofs.Tried.{judge-answered, encode-answered, read-answered, decode-answered, card-answered}
 use Rattle.code.proofs.Refusing.{read-sheet-bytes, sheet-first, card-writes, text-refused-iff, text-listed-iff}
 use Rattle.code.proofs.Refusing.{thirteen-iff, fourteen-iff}
 use Rattle.code.proofs.Fits.{listing-fits}
-use Rattle.code.proofs.Worded.{word-place, mask-word, word-one, degree-said, dimension-said, multiple-said, zeros-said}
+use Rattle.code.proofs.Worded.{place-is, word-place, mask-word, word-one, degree-said, dimension-said, generator-said}
+use Rattle.code.proofs.Worded.{generator-degree-said, multiple-said, zeros-said}
 use Rattle.code.proofs.Worded.{encodes-said, reads-said, refused-said, certificate-published, accepted-published}
 use Rattle.code.proofs.Worded.{rounded-said, distance-said, working-said, record-said, found-said, decoded-said, none-said, apart-said}
 
@@ -90,6 +93,9 @@ module _ (sheet : List ℕ) where
   -- ---- demand 2: for every accepted sheet, in bytes
   pub record Demand2 : Type 0 where
     -- "place i has weight 2^(i mod 8) in byte i div 8, for words and messages", and is "the coefficient of x^i"
+    pub places : (bytes : List ℕ) (i : ℕ)
+        → (place wordWeight bytes i ≡ getD bytes (i / 8) 0 / 2 ^ (i % 8) % 2)
+        × (place messageWeight bytes i ≡ getD bytes (i / 8) 0 / 2 ^ (i % 8) % 2)
     pub word-places : (word : List ℕ) (i : ℕ) → i < x .n → coefficient i (wordOf x word) ≡ getD word (i / 8) 0 / 2 ^ (i % 8) % 2
     pub message-places : (message : List ℕ) (i : ℕ) → i < k
         → coefficient i (maskOf messageWeight k message) ≡ getD message (i / 8) 0 / 2 ^ (i % 8) % 2
@@ -101,6 +107,9 @@ module _ (sheet : List ℕ) where
     pub degree : IsAccepted sheet → (0 < s) × (x .n ∣ 2 ^ s - 1) × ((q : ℕ) → 0 < q → x .n ∣ 2 ^ q - 1 → s ≤ q)
     -- "k = n - (size of D)"
     pub dimension : IsAccepted sheet → (k ≤ x .n) × SetSize (x .n) (x .representatives) (x .n - k)
+    -- "The generator is the product of x - α^i over all i in D. It has coefficients 0 and 1 only."
+    pub generator : IsAccepted sheet → (i : ℕ) → getD (generatorPoly (x .n) (x .representatives)) i 0 ≡ coefficient i (generatorOf x)
+    pub generator-degree : IsAccepted sheet → HasDegree (generatorOf x) (x .n - k)
     -- "Two words of one length differ in a place where one has 1 and the other 0. Spare bits are no places."
     pub differ : (c c′ : ℕ) → differences (x .n) c c′ ≡ total (x .n) (λ i. (coefficient i c + coefficient i c′) % 2)
     -- a word is a codeword ⟺ it is a multiple of the generator
@@ -120,7 +129,8 @@ module _ (sheet : List ℕ) where
     -- what is no codeword is refused with 14
     pub no-codeword : IsAccepted sheet → (word out : List ℕ) → Word x word → ¬ CodewordOf x (wordOf x word) → length out ≡ (k + 7) / 8
         → readOf sheet word out ≡ (refused 14, out)
-    -- for every sheet that draws none of 1 to 6: certificate i draws none of 7 to 10 ⟺ it meets the published conditions
+    -- for every sheet that draws none of 1 to 6: certificate i draws none of 7 to 10 ⟺ it meets the published conditions. (That judging
+    -- tries 7 to 10 of each certificate in turn is `judge` of demand 1.)
     pub certificate : IsAccepted sheet ⊎ (6 < judgeOf sheet .number) → (i : ℕ) → i < length (x .certificates)
         → (firstOf (certificateConditions 1023 (x .n) (x .representatives) (certificateAt x i)) ≡ 0)
         ↔ Published (x .n) (x .representatives) (certificateAt x i)
@@ -174,6 +184,7 @@ demand-1 sheet = record {
 pub demand-2 : (sheet : List ℕ) → Demand2 sheet
 unfolding wordWeight messageWeight
 demand-2 sheet = record {
+  places = λ bytes i. (place-is wordWeight bytes i, place-is messageWeight bytes i);
   word-places = word-place wordWeight (stated sheet .n);
   message-places = word-place messageWeight (dimensionOf (stated sheet));
   word-mask = mask-lt wordWeight (stated sheet .n);
@@ -181,6 +192,8 @@ demand-2 sheet = record {
   word-one = word-one (stated sheet);
   degree = degree-said sheet;
   dimension = dimension-said sheet;
+  generator = generator-said sheet;
+  generator-degree = generator-degree-said sheet;
   differ = differ-count (stated sheet .n);
   multiple = multiple-said sheet;
   zeros = zeros-said sheet;

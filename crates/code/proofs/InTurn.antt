@@ -6,14 +6,14 @@
 --   said-le                  its number is at most top; said-quiet: where none holds, the tests are quiet
 --   said-append              lists one after the other
 --   answered, judged-answered      what is answered by them
-use mathlib.Core.Path.{_≡_, refl, sym, ap, _∙_, subst}
+use mathlib.Core.Path.{_≡_, refl, sym, _∙_, subst}
 use mathlib.Core.Logic.{_↔_, _⊎_, inl, inr}
 use mathlib.Core.Bool.{Bool, true, false}
 use mathlib.Core.List.{List, [], _∷_, _++_}
 use Prim.Native.Nat.{ℕ, zero, suc, _≤_, _<_}
 use native.Mathlib.Omega.{arith}
 use Rattle.field.proofs.Search.{true-ne-false}
-use Rattle.document.specs.Answer.{Answer, Conditions, firstOf, settle}
+use Rattle.document.specs.Answer.{Conditions, firstOf, settle}
 use Rattle.document.proofs.Sane.{settle-number}
 use Rattle.document.proofs.Chain.{Quiet, silent, passing, first-true, first-false}
 use Rattle.document.proofs.Reflect.{Says}

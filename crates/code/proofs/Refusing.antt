@@ -4,30 +4,29 @@
 --   sheet-first              every entry but card refuses with the sheet's refusal
 --   card-writes, text-refused-iff, text-listed-iff      the text that card writes
 --   thirteen-iff, fourteen-iff      what 13 and 14 say, whatever was handed over
-use mathlib.Core.Path.{_≡_, refl, sym, ap, _∙_, subst}
-use mathlib.Core.Logic.{_↔_, _⊎_, inl, inr}
+use mathlib.Core.Path.{_≡_, refl, sym, ap, _∙_}
+use mathlib.Core.Logic.{_↔_, inl, inr}
 use mathlib.Core.List.{List, [], _∷_, _++_}
-use Prim.Native.Nat.{ℕ, zero, suc, _+_, _*_, _/_, _≤_, _<_}
+use Prim.Native.Nat.{ℕ, zero, suc, _+_, _*_, _<_}
 use native.Mathlib.Omega.{arith}
 use lib.ListN.{length, drop}
 use Rattle.document.specs.Answer.{Answer, returned, refused, Conditions, firstOf, settle}
-use Rattle.document.specs.Layout.{wordWeight}
-use Rattle.document.specs.Sheet.{Certificate, Stated, certificateAt, statedBy}
-use Rattle.document.specs.Judge.{dimensionOf, recordOf, judgeEntry}
-use Rattle.document.specs.Entry.{wordOf, encodeConditions, encodeEntry, readConditions, readEntry, decodeConditions, decodeEntry}
+use Rattle.document.specs.Sheet.{Certificate, Stated, certificateAt}
+use Rattle.document.specs.Judge.{recordOf, judgeEntry}
+use Rattle.document.specs.Entry.{encodeConditions, encodeEntry, readConditions, readEntry, decodeConditions, decodeEntry}
 use Rattle.document.specs.Card.{refusedLine, acceptedLines, listingFor, listingOf, cardConditions, cardEntry}
 use Rattle.document.specs.Short.{short, byteAt, stated, refusalsOf, judgeOf, encodeOf, readOf, decodeOf, listing, cardOf}
 use Rattle.document.proofs.Sane.{settle-number}
 use Rattle.document.proofs.Stated.{representatives-length, representative-is, certificates-length, certificate-is, length-is}
 use Rattle.document.proofs.Chain.{first-quiet, first-keep}
-use Rattle.document.proofs.Acceptance.{judge-number, judge-le, quiet-of, accepted-iff}
+use Rattle.document.proofs.Acceptance.{judge-number, judge-le, quiet-of}
 use Rattle.document.proofs.Settled.{entry-sheet}
 use Rattle.document.proofs.Reflect.{eqb-iff}
 use Rattle.document.proofs.CardIs.{refused-injective, accepted-other}
 use Rattle.certificate.proofs.Sheets as Sheets
 use Rattle.code.specs.Turns.{Turns, FirstThatHolds}
-use Rattle.code.specs.Published.{IsAccepted, CertificateRead, SheetRead, CodewordOf}
-use Rattle.code.specs.Table.{SpareBit, NoneNear, NoneNearSaid, NoCodewordSaid, decodeOwn, readOwn, lastRefusal}
+use Rattle.code.specs.Published.{IsAccepted, CertificateRead, SheetRead}
+use Rattle.code.specs.Table.{NoneNearSaid, NoCodewordSaid, decodeOwn, readOwn, lastRefusal}
 use Rattle.code.proofs.InTurn.{stable, said-none, said-first}
 use Rattle.code.proofs.Tried.{card-said, read-own, decode-own}
 

@@ -15,27 +15,25 @@
 use mathlib.Core.Path.{_≡_, refl, sym, ap, _∙_}
 use mathlib.Core.Logic.{_↔_}
 use mathlib.Core.Bool.{Bool, true, false, not}
-use mathlib.Core.List.{List, [], _∷_, _++_}
-use Prim.Native.Nat.{ℕ, zero, suc, _+_, _-_, _*_, _%_, _^_, _≤_, _<_}
+use mathlib.Core.List.{List, [], _∷_}
+use Prim.Native.Nat.{ℕ, _+_, _-_, _*_, _%_, _^_, _≤_, _<_}
 use native.Mathlib.Omega.{arith}
-use lib.ListN.{length, getD}
+use lib.ListN.{length}
 use lib.Pow.{shr-shr}
-use borrow.Author.Tests.{eqb-true}
 use Rattle.algebra.proofs.Lists.{All}
 use Rattle.field.specs.Mask.{coefficient, clmul, remainder}
 use Rattle.field.specs.Field.{fieldPower, orderOfTwo, α}
 use Rattle.cyclic.proofs.Places.{coefficient-above, coefficient-zero}
-use Rattle.document.specs.Answer.{returned, refused, Conditions, firstOf}
+use Rattle.document.specs.Answer.{returned, refused, Conditions}
 use Rattle.document.specs.Layout.{wordWeight, messageWeight, bytesFor, place, maskOf, bytesOf, spare}
 use Rattle.document.specs.Coset.{inSet}
 use Rattle.document.specs.Sheet.{Stated, Kind, statedBy}
 use Rattle.document.specs.Generator.{valueAt, isCodeword, encodeMask, messageOf}
 use Rattle.document.specs.Judge.{judgeConditions, dimensionOf}
-use Rattle.document.specs.Entry.{wrongSize, generatorOf, wordOf, encodedWord, encodeEntry, readConditions, readEntry}
-use Rattle.document.proofs.Sane.{settle-number}
+use Rattle.document.specs.Entry.{generatorOf, wordOf, encodedWord, encodeEntry, readEntry}
 use Rattle.document.proofs.Theory.{Length}
-use Rattle.document.proofs.Chain.{Quiet, first-quiet, first-keep}
-use Rattle.document.proofs.Acceptance.{judgeBy, accepted-iff, judge-number, judge-le}
+use Rattle.document.proofs.Chain.{Quiet}
+use Rattle.document.proofs.Acceptance.{judgeBy, accepted-iff, judge-number}
 use Rattle.document.proofs.Encoding.{multiple-iff, defining-iff, representatives-iff, encode-is-codeword, encode-systematic, encode-checks, encode-lt, message-lt, codeword-is-encoding}
 use Rattle.codeword.proofs.Places.{Weights, word-weights, message-weights, mask-lt, mask-coefficient, for-le, spare-clear, bytes-length, bytes-place, mask-of-bytes, bytes-of-mask}
 use Rattle.codeword.specs.Codewords.{Usable, RemainderTested}

@@ -6,21 +6,20 @@
 --   published-iff            a certificate meets the rules exactly when it meets the published conditions
 --   rounded-of               and its distance is the published one
 use mathlib.Core.Path.{_≡_, refl, sym, ap, _∙_, subst}
-use mathlib.Core.Logic.{_↔_, _⊎_, inl, inr, Iff·trans, Iff·not}
-use mathlib.Core.Bool.{Bool, true, not, _||_}
+use mathlib.Core.Logic.{_↔_, _⊎_, Iff·trans, Iff·not}
+use mathlib.Core.Bool.{Bool, not, _||_}
 use mathlib.Core.List.{List, [], _∷_, flatMap}
-use Prim.Native.Nat.{ℕ, suc, _+_, _-_, _*_, _/_, _%_, _^_, _≤_, _<_, _∣_}
+use Prim.Native.Nat.{ℕ, _+_, _-_, _*_, _%_, _^_, _≤_, _<_, _∣_}
 use native.Mathlib.Nat.{div-one}
 use native.Mathlib.Omega.{arith}
 use lib.Dec.{eqb}
 use lib.ListN.{getD}
-use Rattle.field.specs.Search.{upTo, every}
 use Rattle.field.specs.Mask.{_⊕_, coefficient}
 use Rattle.cyclic.proofs.Division.{_∣ₘ_}
 use Rattle.field.specs.Field.{OddLength}
 use Rattle.field.proofs.Search.{every-at, every-of}
 use Rattle.field.proofs.Xor.{digit-lt}
-use Rattle.binary.specs.Factor.{coprime, degree, common, period, terms, Modulus}
+use Rattle.binary.specs.Factor.{coprime, degree, period, terms, Modulus}
 use Rattle.binary.proofs.Degree.{degree-of, degree-low, degree-high}
 use Rattle.binary.proofs.MaskPeriod.{period-pos}
 use Rattle.binary.proofs.Series.{register, terms-at}

@@ -4,22 +4,22 @@
 --   accepted-of              where none of 1 to 10 holds, the sheet is accepted
 --   codeword-said, near-said      a codeword as it is tested; no codeword near as it is searched for
 --   judge-answered, encode-answered, read-answered, decode-answered, card-answered      what each entry answers
-use mathlib.Core.Path.{_≡_, refl, sym, ap, _∙_, subst}
-use mathlib.Core.Logic.{_≢_, _↔_, _⊎_, inl, inr, Iff·trans, Iff·not}
-use mathlib.Core.Bool.{Bool, true, not}
-use mathlib.Core.List.{List, [], _∷_, _++_, flatMap}
-use Prim.Native.Nat.{ℕ, _+_, _-_, _*_, _/_, _%_, _^_, _≤_, _<_}
+use mathlib.Core.Path.{_≡_, refl}
+use mathlib.Core.Logic.{_≢_, inl, inr, Iff·trans, Iff·not}
+use mathlib.Core.Bool.{not}
+use mathlib.Core.List.{List, [], _++_}
+use Prim.Native.Nat.{ℕ, _+_, _-_, _/_, _%_, _^_, _≤_}
 use native.Mathlib.Decide.{decLt}
 use native.Mathlib.Omega.{arith}
 use lib.Dec.{eqb}
 use lib.ListN.{length}
 use Rattle.field.specs.Field.{OddLength}
 use Rattle.codeword.proofs.Places.{mask-lt}
-use Rattle.document.specs.Answer.{Conditions, firstOf}
+use Rattle.document.specs.Answer.{firstOf}
 use Rattle.document.specs.Layout.{wordWeight, messageWeight, bytesFor, spare}
 use Rattle.document.specs.Sheet.{Stated}
 use Rattle.document.specs.Coset.{dimension}
-use Rattle.document.specs.Generator.{isCodeword, Codeword}
+use Rattle.document.specs.Generator.{isCodeword}
 use Rattle.document.specs.Judge.{noMessage, sheetConditions, judgeConditions, dimensionOf, recordOf, judgeEntry}
 use Rattle.document.specs.Entry.{generatorOf, wordOf, nearestMessage, encodeConditions, encodeEntry, readConditions, readEntry}
 use Rattle.document.specs.Entry.{decodeConditions, decodeEntry}
@@ -28,8 +28,8 @@ use Rattle.document.specs.Short.{short, stated, refusalsOf, judgeOf, encodeOf, 
 use Rattle.document.proofs.Reflect.{Says, not-iff, eqb-iff, not-eq-iff}
 use Rattle.document.proofs.Meaning.{length-iff, code-length-iff, header-iff, representative-iff, degree-iff, no-message-iff, spare-iff}
 use Rattle.certificate.proofs.Sheets as Sheets
-use Rattle.code.specs.Turns.{Turns, NoneHolds}
-use Rattle.code.specs.Published.{CodewordOf, changes}
+use Rattle.code.specs.Turns.{NoneHolds}
+use Rattle.code.specs.Published.{CodewordOf}
 use Rattle.code.specs.Table.{WrongCodeLength, NoMessage, WrongBufferLength, SpareBit, NoneNear, headTurns, sheetTurns, encodeOwn, encodeTurns}
 use Rattle.code.specs.Table.{readOwn, readTurns, decodeOwn, decodeTurns, cardTurns, lastRefusal, Answered}
 use Rattle.code.proofs.InTurn.{Said, said-none, said-append, answered, judged-answered}

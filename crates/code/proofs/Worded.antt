@@ -1,7 +1,9 @@
 -- Demands 2 and 3 in the words of specs/Published.antt: for every sheet of document 01's kind.
 --
 --   places-there, places-back      places in bytes, by a test for spare bits and without
+--   place-is, word-place     place i in bytes, and as a coefficient
 --   mask-word, word-one      words and masks of n places
+--   generator-said, generator-degree-said      the generator's coefficients, and its degree
 --   multiple-said, zeros-said      what a codeword is
 --   encodes-said, reads-said, refused-said      encoding and reading out
 --   draws-none               a sheet that draws none of 1 to 6
@@ -13,10 +15,11 @@ use mathlib.Core.Logic.{_≢_, _↔_, _⊎_, inl, inr, Iff·trans, Iff·symm}
 use mathlib.Core.Bool.{Bool, true, false}
 use mathlib.Core.List.{List, [], _∷_}
 use Prim.Native.Nat.{ℕ, zero, suc, _+_, _-_, _*_, _/_, _%_, _^_, _≤_, _<_, _∣_}
-use native.Mathlib.Nat.{mod-eq-zero-of-dvd}
+use native.Mathlib.Nat.{mod-eq-zero-of-dvd, mod-lt, div-add-mod, mul-one, pow-succ'}
 use native.Mathlib.Decide.{decLt, ℕ-discrete}
 use native.Mathlib.Omega.{arith}
 use lib.ListN.{length, getD}
+use lib.Pow.{pow-pos}
 use Rattle.field.specs.Mask.{coefficient}
 use Rattle.field.specs.Field.{OddLength, orderOfTwo}
 use Rattle.field.proofs.Search.{true-ne-false}
@@ -24,23 +27,24 @@ use Rattle.field.proofs.Xor.{digit-lt}
 use Rattle.field.proofs.OrderOfTwo.{order-pos, order-divides, order-least}
 use Rattle.field.specs.Search.{bit}
 use Rattle.document.specs.Answer.{Answer, returned, refused, firstOf}
-use Rattle.document.specs.Layout.{wordWeight, messageWeight, bytesFor, place, maskOf, bytesOf, spare}
+use Rattle.document.specs.Layout.{wordWeight, bytesFor, place, maskOf, bytesOf, spare}
 use Rattle.document.specs.Sheet.{Stated, certificateAt}
 use Rattle.document.specs.Coset.{inSet}
-use Rattle.document.specs.Generator.{isCodeword, messageOf, differences}
+use Rattle.document.specs.Generator.{generatorPoly, isCodeword, messageOf, differences}
 use Rattle.document.specs.Certificate.{distance, radius}
 use Rattle.document.specs.Judge.{sheetConditions, certificateConditions, judgeConditions, dimensionOf, workingOf, workingCertificate, recordOf}
 use Rattle.document.specs.Entry.{generatorOf, radiusOf, wordOf, encodedWord}
-use Rattle.document.specs.Short.{short, stated, refusalsOf, judgeOf, encodeOf, readOf, decodeOf}
+use Rattle.document.specs.Short.{short, stated, judgeOf, encodeOf, readOf, decodeOf}
 use Rattle.document.proofs.Chain.{first-keep}
+use Rattle.document.proofs.GeneratorIs.{generator-digit, generator-is, generator-degree}
 use Rattle.document.proofs.Acceptance.{Rules, judge-number, certificate-iff, accepted-rules, accepted-record}
 use Rattle.document.proofs.Meaning.{set-iff, dimension-sum, spare-iff, radius-is, working-iff}
 use Rattle.binary.proofs.Meaning.{factor-iff}
-use Rattle.codeword.proofs.Places.{word-weights, message-weights, mask-lt, mask-coefficient, bytes-lt, mask-of-bytes, bytes-of-mask}
+use Rattle.codeword.proofs.Places.{word-weights, message-weights, mask-coefficient, bytes-lt, mask-of-bytes, bytes-of-mask}
 use Rattle.certificate.proofs.Sheets as Sheets
 use Rattle.certificate.proofs.Decoding as Decoding
 use Rattle.code.specs.Turns.{NoneHolds}
-use Rattle.code.specs.Published.{IsAccepted, Places, Bytes, Word, Message, CodewordOf, InDefiningSet, SetSize, Divides, ZeroAt, changes, Published, Rounded, WorkingIs}
+use Rattle.code.specs.Published.{IsAccepted, Places, Bytes, Word, Message, CodewordOf, InDefiningSet, SetSize, HasDegree, Divides, ZeroAt, changes, Published, Rounded, WorkingIs}
 use Rattle.code.specs.Published.{Systematic, WordDecoded}
 use Rattle.code.specs.Table.{NoneNear, headTurns}
 use Rattle.code.proofs.InTurn.{said-none, said-le, said-quiet}
@@ -70,10 +74,24 @@ module _ {weight : ℕ → ℕ} {n : ℕ} {bytes : List ℕ} where
     ];
   }
 
+pub place-is : (weight : ℕ → ℕ) (bytes : List ℕ) (i : ℕ) → place weight bytes i ≡ getD bytes (i / 8) 0 / weight i % 2
+unfolding place
+place-is weight bytes i = refl
+
 pub word-place : (weight : ℕ → ℕ) (n : ℕ) (bytes : List ℕ) (i : ℕ) → i < n
     → coefficient i (maskOf weight n bytes) ≡ getD bytes (i / 8) 0 / weight i % 2
 unfolding place
 word-place weight n bytes i h = mask-coefficient weight n bytes i h
+
+-- a mask whose leading coefficient is that of x^u has degree u
+degree-has-top : {g u : ℕ} → g / 2 ^ u ≡ 1 → HasDegree g u
+degree-has-top {g} {u} e =
+    let p : 0 < 2 ^ u = pow-pos u in
+    let q : 2 ^ u * (g / 2 ^ u) + g % 2 ^ u ≡ g = div-add-mod g (2 ^ u) in
+    let r : g % 2 ^ u < 2 ^ u = mod-lt g p in
+    let m : 2 ^ u * (g / 2 ^ u) ≡ 2 ^ u = ap (λ (y : ℕ). 2 ^ u * y) e ∙ mul-one (2 ^ u) in
+    let t : 2 ^ suc u ≡ 2 * 2 ^ u = pow-succ' 2 u in
+    record { low = omega arith; high = omega arith }
 
 -- words in bytes and masks of n places are the same
 module _ (x : Stated) where
@@ -184,6 +202,7 @@ module _ (sheet : List ℕ) where
         record {
           below = w .0;
           d-is = refl;
+          rounded = rounded-said (workingOf x) (w .0);
           t-is = refl;
           halves = λ i l. radius-is (certificateAt x i);
           largest = w .1;
@@ -200,6 +219,17 @@ module _ (sheet : List ℕ) where
     pub apart-said : (c d : ℕ) → CodewordOf x c → CodewordOf x d → c ≢ d → distance (workingCertificate x) ≤ differences (x .n) c d
     unfolding workingCertificate
     apart-said c d v w ne = distance-said (workingOf x) (working-said .below) c d v w ne
+
+    -- ---- the generator
+    pub generator-said : (i : ℕ) → getD (generatorPoly (x .n) (x .representatives)) i 0 ≡ coefficient i (generatorOf x)
+    unfolding generatorOf
+    generator-said i =
+        let l = a .head .length-of in
+        generator-digit l (x .representatives) i ∙ ap (coefficient i) (sym (generator-is l (x .representatives)))
+
+    pub generator-degree-said : HasDegree (generatorOf x) (x .n - dimensionOf x)
+    unfolding generatorOf dimensionOf
+    generator-degree-said = degree-has-top (generator-degree (a .head .length-of) (x .representatives))
 
     -- ---- codewords
     pub multiple-said : (word : List ℕ) → CodewordOf x (wordOf x word) ↔ Divides (generatorOf x) (wordOf x word)

@@ -1,4 +1,6 @@
--- What document 01 publishes, in statements with no search in them: the words in which proofs/Demands.antt says the three demands.
+-- What document 01 publishes, as statements: the words in which proofs/Demands.antt says the three demands. The conditions of a certificate
+-- have no search in them; s, k, the generator and the working certificate, which the definitions search for or compute, are named, and
+-- fields of the demands say what they are (degree, dimension, generator, working).
 --
 --   IsAccepted sheet                 judging refuses nothing
 --   CertificateRead, SheetRead     what a sheet's bytes state
@@ -142,7 +144,7 @@ pub record Published (n : ℕ) (reps : List ℕ) (c : Certificate) : Type 0 wher
   pub rule3 : Rule3 n c
   pub rule4 : Rule4 n reps c
 
--- "Its distance is d = (L - v)/u + 1, rounded up": the least d with d·u ≥ L - v + u
+-- "Its distance is d = (L - v)/u + 1, rounded up": the least d with d·u ≥ L - v + u, with v on the other side, since L may be below v
 pub record Rounded (c : Certificate) (d : ℕ) : Type 0 where
   pub u : ℕ
   pub u-is : HasDegree (c .f) u
@@ -155,6 +157,7 @@ pub record Rounded (c : Certificate) (d : ℕ) : Type 0 where
 pub record WorkingIs (x : Stated) (w d t : ℕ) : Type 0 where
   pub below : w < length (x .certificates)
   pub d-is : d ≡ distance (certificateAt x w)
+  pub rounded : Rounded (certificateAt x w) d
   pub t-is : t ≡ radius (certificateAt x w)
   pub halves : (i : ℕ) → i < length (x .certificates)
       → (2 * radius (certificateAt x i) + 1 ≤ distance (certificateAt x i)) × (distance (certificateAt x i) ≤ 2 * radius (certificateAt x i) + 2)

@@ -1,7 +1,7 @@
 -- The listing says what it is written for: different numbers are written differently, and a refusal is never taken for a code.
 --
 --   read l                 the number that digits say
---   read-decimal           the digits of x say x; decimal-injective: so different numbers have different digits
+--   read-decimal           the digits of x say x
 --   refused-injective      different refusals have different lines
 --   accepted-other         the lines of an accepted sheet are no refusal's
 use mathlib.Core.Path.{_≡_, refl, sym, ap, _∙_}
@@ -50,9 +50,6 @@ read-in (suc n) x h = elim (decLt x 10) [
 read-decimal : (x : ℕ) → read (decimal x) ≡ x
 unfolding decimal
 read-decimal x = read-in (suc x) x (omega arith)
-
-pub decimal-injective : (x y : ℕ) → decimal x ≡ decimal y → x ≡ y
-decimal-injective x y e = sym (read-decimal x) ∙ ap read e ∙ read-decimal y
 
 -- ---- lines: the newline is read as a digit 0
 read-refused : (r : ℕ) → read (drop 8 (refusedLine r)) ≡ r * 10

@@ -2,10 +2,10 @@
 --
 --   length-iff, code-length-iff, header-iff      conditions 1, 2 and 4 of document 01's kind of sheet
 --   rule1-iff                  rule 1 of a certificate
---   set-iff, smallest-iff      D and the smallest of a coset, by all powers of 2
+--   set-iff                    D, by all powers of 2
 --   representative-iff, degree-iff      conditions 5 and 3
 --   differ-count               the places in which two words differ, counted
---   set-count, dimension-sum   the members of D, counted; k is what is left of n
+--   dimension-sum              k and the members of D, counted, make n
 --   no-message-iff             condition 6: every number below n is in D
 --   spare-iff                  condition 12: a spare bit is 1
 --   distance-least             d is the least number with L + u ≤ d·u + v; radius-is: t by d
@@ -39,7 +39,7 @@ use Rattle.document.specs.Judge.{wrongDegree, wrongRepresentative}
 use Rattle.document.specs.Short.{byteAt, numberAt, short}
 use Rattle.document.proofs.Reflect.{eqb-iff, leb-iff, ltb-iff, not-eq-iff, not-lt-iff, not-iff, or-of, and-of, right, left}
 use Rattle.document.proofs.Reflect.{some-says, not-every-iff, member-iff}
-use Rattle.document.proofs.Cosets.{coset-at, coset-of, smallest-at, smallest-of}
+use Rattle.document.proofs.Cosets.{coset-at, coset-of, smallest-at}
 use Rattle.document.proofs.Sane.{distance-pos, working-most}
 use Rattle.document.proofs.Chain.{working-is}
 
@@ -133,9 +133,6 @@ module _ {n : ℕ} (o : OddLength n) where
     λ w. (w .0, w .1, coset-of o (getD reps (w .0) 0) i (w .2 .0) (w .2 .1)),
   )
 
-  pub smallest-iff : (r : ℕ) → (smallest n r ≡ true) ↔ ((j : ℕ) → r ≤ r * 2 ^ j % n)
-  smallest-iff r = (smallest-at o r, λ h. smallest-of o r (λ j l. h j))
-
   not-smallest : (r : ℕ) → (not (smallest n r) ≡ true) ↔ ((j : ℕ) × (r * 2 ^ j % n < r))
   unfolding smallest
   not-smallest r = (
@@ -220,10 +217,6 @@ module _ (test : ℕ → Bool) where
   all-of (suc n) h =
       let b : bit (test n) ≡ 1 = ap bit (h n (omega arith)) in
       omega (arith, total-s n (λ i. bit (test i)), all-of n (λ i l. h i (omega arith)))
-
-pub set-count : (n : ℕ) (reps : List ℕ) → length (definingSet n reps) ≡ total n (λ i. bit (inSet n reps i))
-unfolding definingSet
-set-count n reps = keep-count (inSet n reps) n
 
 pub dimension-sum : (n : ℕ) (reps : List ℕ) → dimension n reps + total n (λ i. bit (inSet n reps i)) ≡ n
 unfolding dimension definingSet

@@ -6,7 +6,7 @@
 --   Joined n r d e g w g′ w′      so for one representative more
 use mathlib.Core.Path.{_≡_}
 use mathlib.Core.Bool.{true}
-use mathlib.Core.List.{List, [], _∷_}
+use mathlib.Core.List.{List, _∷_}
 use Prim.Native.Nat.{ℕ, _≤_, _<_}
 use lib.ListN.{length, getD}
 use Rattle.field.specs.Field.{OddLength, orderOfTwo}

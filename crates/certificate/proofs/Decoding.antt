@@ -19,22 +19,17 @@ use borrow.Author.Tests.{eq-eqb, ne-eqb}
 use Rattle.document.specs.Answer.{Answer, returned, refused, Conditions, firstOf}
 use Rattle.document.specs.Layout.{wordWeight, bytesFor, bytesOf, spare}
 use Rattle.document.specs.Sheet.{Stated, Kind, statedBy}
-use Rattle.document.specs.Generator.{differences}
 use Rattle.document.specs.Judge.{judgeConditions, dimensionOf}
-use Rattle.document.specs.Entry.{wrongSize, radiusOf, wordOf, nearestMessage, decodedWord, decodeConditions, decodeEntry}
+use Rattle.document.specs.Entry.{wrongSize, radiusOf, CodewordOf, changed, nearestMessage, decodedWord, decodeConditions, decodeEntry}
 use Rattle.document.proofs.Chain.{Quiet, first-true, first-false}
 use Rattle.document.proofs.Acceptance.{judgeBy, judge-number, accepted-iff}
 use Rattle.document.proofs.Settled.{entry-quiet, entry-refused, entry-done, first-nil, size-right}
-use Rattle.certificate.proofs.Sheets.{Accepted, accepted, SheetCodeword, sheet-found, sheet-some, sheet-none, nearest-le}
+use Rattle.certificate.proofs.Sheets.{Accepted, accepted, sheet-found, sheet-some, sheet-none, nearest-le}
 
 pub record RightForm (x : Stated) (word out : List ℕ) : Type 0 where
   pub word-long : length word ≡ bytesFor (x .n)
   pub out-long : length out ≡ bytesFor (x .n)
   pub clear : spare wordWeight (x .n) word ≡ false
-
--- in how many places the word differs from c
-abbrev pub changed : Stated → List ℕ → ℕ → ℕ
-changed x word c = differences (x .n) (wordOf x word) c
 
 -- ---- what is stated: the conditions of the sheet's refusals are quiet, and it states x
 module _ {x : Stated} (a : Accepted x) {conditions : Conditions} (q : Quiet conditions) (word out : List ℕ) (r : RightForm x word out) where
@@ -51,7 +46,7 @@ module _ {x : Stated} (a : Accepted x) {conditions : Conditions} (q : Quiet cond
       ∙ first-false (11, wrongSize n out) _ (size-right n out (r .out-long))
       ∙ first-false (12, spare wordWeight n word) _ (r .clear)
 
-  pub stated-found : {c : ℕ} → SheetCodeword x c → changed x word c ≤ radiusOf x
+  pub stated-found : {c : ℕ} → CodewordOf x c → changed x word c ≤ radiusOf x
       → (returned (changed x word c ∷ []), bytesOf wordWeight n c) ≡ decodeEntry conditions x word out
   unfolding decodeEntry
   stated-found {c} w h =
@@ -62,7 +57,7 @@ module _ {x : Stated} (a : Accepted x) {conditions : Conditions} (q : Quiet cond
       refl
       ∙ entry-quiet (decodeConditions x word out) (changed x word (decodedWord x word) ∷ []) (bytesOf wordWeight n (decodedWord x word)) out q
 
-  pub stated-none : ((c : ℕ) → SheetCodeword x c → radiusOf x < changed x word c) → (refused 13, out) ≡ decodeEntry conditions x word out
+  pub stated-none : ((c : ℕ) → CodewordOf x c → radiusOf x < changed x word c) → (refused 13, out) ≡ decodeEntry conditions x word out
   unfolding decodeEntry
   stated-none f =
       entry-refused (decodeConditions x word out) (changed x word (decodedWord x word) ∷ []) (bytesOf wordWeight n (decodedWord x word)) out 12
@@ -84,18 +79,18 @@ module _ (kind : Kind) (small : kind .mostPlaces ≤ 65535) (sheet : List ℕ) (
   quiet : Quiet (judgeConditions kind sheet)
   quiet = accepted-iff kind sheet .0 e
 
-  pub decode-found : {c : ℕ} → SheetCodeword x c → changed x word c ≤ radiusOf x
+  pub decode-found : {c : ℕ} → CodewordOf x c → changed x word c ≤ radiusOf x
       → (returned (changed x word c ∷ []), bytesOf wordWeight (x .n) c) ≡ decoding
   decode-found w h = stated-found a quiet word out r w h
 
-  pub decode-none : ((c : ℕ) → SheetCodeword x c → radiusOf x < changed x word c) → (refused 13, out) ≡ decoding
+  pub decode-none : ((c : ℕ) → CodewordOf x c → radiusOf x < changed x word c) → (refused 13, out) ≡ decoding
   decode-none f = stated-none a quiet word out r f
 
   -- a codeword within t places, and it is written with the number of changed places; or 13, and there is none
   pub found-or-none :
-      ((c : ℕ) × SheetCodeword x c × (changed x word c ≤ radiusOf x)
+      ((c : ℕ) × CodewordOf x c × (changed x word c ≤ radiusOf x)
       × (decoding ≡ (returned (changed x word c ∷ []), bytesOf wordWeight (x .n) c)))
-      ⊎ (((c : ℕ) → SheetCodeword x c → radiusOf x < changed x word c) × (decoding ≡ (refused 13, out)))
+      ⊎ (((c : ℕ) → CodewordOf x c → radiusOf x < changed x word c) × (decoding ≡ (refused 13, out)))
   found-or-none =
       elim (ℕ-discrete (nearestMessage x word) (2 ^ dimensionOf x)) [
         | yes e ↦ (let f = sheet-none a word .0 e in inr (f, sym (decode-none f)))

@@ -3,22 +3,20 @@
 --   Accepted x          what an accepted sheet states: n is odd, s at most 12, and every certificate meets rules 1 to 4
 --   accepted            so does every sheet, of any kind, that draws no refusal
 --   working-sound       the working certificate meets rules 1 to 4
---   SheetCodeword x c   a codeword of what is stated
 --   sheet-distance      any two different codewords differ in at least d places, d of any certificate on it
 --   sheet-unique        at most one codeword lies within t places of a word, t the sheet's
 --   sheet-found, sheet-some, sheet-none      `nearestMessage` finds it, or there is none
 use mathlib.Core.Path.{_≡_}
 use mathlib.Core.Logic.{_≢_, _↔_}
-use mathlib.Core.Bool.{true}
 use mathlib.Core.List.{List}
 use Prim.Native.Nat.{ℕ, _-_, _^_, _≤_, _<_}
 use lib.ListN.{length}
 use Rattle.document.specs.Answer.{firstOf}
 use Rattle.document.specs.Sheet.{Stated, certificateAt, Kind, statedBy, wrongLength, wrongCodeLength, wrongHeader}
-use Rattle.document.specs.Generator.{isCodeword, Codeword, differences}
+use Rattle.document.specs.Generator.{differences}
 use Rattle.document.specs.Certificate.{distance, radius}
 use Rattle.document.specs.Judge.{wrongDegree, sheetConditions, judgeConditions, dimensionOf, workingOf, workingCertificate}
-use Rattle.document.specs.Entry.{generatorOf, radiusOf, wordOf, nearestMessage, decodedWord}
+use Rattle.document.specs.Entry.{generatorOf, radiusOf, CodewordOf, wordOf, nearestMessage, decodedWord}
 use Rattle.document.proofs.Sane.{passed, working-most, accepted-dimension}
 use Rattle.document.proofs.Theory.{Length}
 use Rattle.document.proofs.Stated.{Headed, headed}
@@ -46,11 +44,6 @@ accepted kind small sheet e =
       sound = λ i h. sound-of (quiet-rules kind sheet (quiet-of kind sheet e) i h);
     }
 
--- a codeword of what is stated
-pub record SheetCodeword (x : Stated) (c : ℕ) : Type 0 where
-  pub small : c < 2 ^ x .n
-  pub is : isCodeword (x .n - dimensionOf x) (generatorOf x) c ≡ true
-
 module _ {x : Stated} (a : Accepted x) where
   abbrev n : ℕ
   n = x .n
@@ -72,43 +65,31 @@ module _ {x : Stated} (a : Accepted x) where
   unfolding workingCertificate
   working-sound = a .sound (workingOf x) working-lt
 
-  word : {c : ℕ} → SheetCodeword x c → Codeword n reps c
-  unfolding dimensionOf generatorOf
-  word w = record { small = w .small; is = w .is }
-
-  word-back : {c : ℕ} → Codeword n reps c → SheetCodeword x c
-  unfolding dimensionOf generatorOf
-  word-back w = record { small = w .small; is = w .is }
-
-  pub sheet-distance : (i : ℕ) → i < length (x .certificates) → {a b : ℕ} → SheetCodeword x a → SheetCodeword x b → a ≢ b
+  pub sheet-distance : (i : ℕ) → i < length (x .certificates) → {a b : ℕ} → CodewordOf x a → CodewordOf x b → a ≢ b
       → distance (certificateAt x i) ≤ differences n a b
   sheet-distance i h v w ne =
-      Distance.distance-holds accepted-length reps (certificateAt x i) (a .sound i h) (word v) (word w) ne
+      Distance.distance-holds accepted-length reps (certificateAt x i) (a .sound i h) v w ne
 
-  pub sheet-unique : (r : ℕ) {a b : ℕ} → SheetCodeword x a → SheetCodeword x b → differences n r a ≤ radiusOf x → differences n r b ≤ radiusOf x
+  pub sheet-unique : (r : ℕ) {a b : ℕ} → CodewordOf x a → CodewordOf x b → differences n r a ≤ radiusOf x → differences n r b ≤ radiusOf x
       → a ≡ b
   unfolding radiusOf
-  sheet-unique r v w h j = Distance.near-only accepted-length reps (workingCertificate x) working-sound r (word v) (word w) h j
+  sheet-unique r v w h j = Distance.near-only accepted-length reps (workingCertificate x) working-sound r v w h j
 
   -- ---- what decoding is to find
-  pub sheet-found : (bytes : List ℕ) {c : ℕ} → SheetCodeword x c → differences n (wordOf x bytes) c ≤ radiusOf x
+  pub sheet-found : (bytes : List ℕ) {c : ℕ} → CodewordOf x c → differences n (wordOf x bytes) c ≤ radiusOf x
       → (nearestMessage x bytes < 2 ^ k) × (decodedWord x bytes ≡ c)
   unfolding radiusOf nearestMessage decodedWord dimensionOf generatorOf
-  sheet-found bytes w h = Distance.nearest-is accepted-length reps (workingCertificate x) working-sound (wordOf x bytes) (word w) h
+  sheet-found bytes w h = Distance.nearest-is accepted-length reps (workingCertificate x) working-sound (wordOf x bytes) w h
 
   pub sheet-some : (bytes : List ℕ) → nearestMessage x bytes < 2 ^ k
-      → SheetCodeword x (decodedWord x bytes) × (differences n (wordOf x bytes) (decodedWord x bytes) ≤ radiusOf x)
+      → CodewordOf x (decodedWord x bytes) × (differences n (wordOf x bytes) (decodedWord x bytes) ≤ radiusOf x)
   unfolding radiusOf nearestMessage decodedWord dimensionOf generatorOf
-  sheet-some bytes h =
-      let w = Distance.nearest-some accepted-length reps (workingCertificate x) working-sound (wordOf x bytes) h in
-      (word-back (w .0), w .1)
+  sheet-some bytes h = Distance.nearest-some accepted-length reps (workingCertificate x) working-sound (wordOf x bytes) h
 
   pub sheet-none : (bytes : List ℕ) → (nearestMessage x bytes ≡ 2 ^ k)
-      ↔ ((c : ℕ) → SheetCodeword x c → radiusOf x < differences n (wordOf x bytes) c)
+      ↔ ((c : ℕ) → CodewordOf x c → radiusOf x < differences n (wordOf x bytes) c)
   unfolding radiusOf nearestMessage dimensionOf generatorOf
-  sheet-none bytes =
-      let w = Distance.nearest-none accepted-length reps (workingCertificate x) working-sound (wordOf x bytes) in
-      (λ q c v. w .0 q c (word v), λ f. w .1 (λ c v. f c (word-back v)))
+  sheet-none bytes = Distance.nearest-none accepted-length reps (workingCertificate x) working-sound (wordOf x bytes)
 
   pub nearest-le : (bytes : List ℕ) → nearestMessage x bytes ≤ 2 ^ k
   unfolding radiusOf nearestMessage dimensionOf generatorOf

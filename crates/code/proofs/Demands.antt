@@ -24,12 +24,12 @@ use Rattle.document.specs.Sheet.{Stated, certificateAt}
 use Rattle.document.specs.Generator.{generatorPoly, differences}
 use Rattle.document.specs.Certificate.{distance}
 use Rattle.document.specs.Judge.{certificateConditions, dimensionOf, workingOf, workingCertificate}
-use Rattle.document.specs.Entry.{generatorOf, radiusOf, wordOf}
+use Rattle.document.specs.Entry.{CodewordOf, generatorOf, radiusOf, wordOf, changed}
 use Rattle.document.specs.Card.{refusedLine, acceptedLines}
 use Rattle.document.specs.Short.{stated, judgeOf, encodeOf, readOf, decodeOf, listing, cardOf}
 use Rattle.document.proofs.Meaning.{differ-count}
 use Rattle.codeword.proofs.Places.{mask-lt}
-use Rattle.code.specs.Published.{IsAccepted, SheetRead, Bytes, Word, Message, CodewordOf, InDefiningSet, SetSize, ZeroAt, changes}
+use Rattle.code.specs.Published.{IsAccepted, SheetRead, Bytes, Word, Message, InDefiningSet, SetSize, ZeroAt}
 use Rattle.code.specs.Published.{HasDegree, Divides, Published, Rounded, WorkingIs, Systematic, WordDecoded}
 use Rattle.code.specs.Table.{NoneNear, sheetTurns, encodeTurns, readTurns, decodeTurns, cardTurns}
 use Rattle.code.specs.Table.{NoneNearSaid, NoCodewordSaid, Answered}
@@ -152,7 +152,7 @@ module _ (sheet : List ℕ) where
         ≡ returned (x .n ∷ k ∷ s ∷ workingOf x ∷ d ∷ t ∷ certificateAt x (workingOf x) .L ∷ [])
     -- the number is 0 ⟺ some codeword differs in at most t places
     pub found : IsAccepted sheet → (word out : List ℕ) → Word x word → length out ≡ (x .n + 7) / 8
-        → (decodeOf sheet word out .0 .number ≡ 0) ↔ ((c : ℕ) × CodewordOf x c × (changes x word c ≤ t))
+        → (decodeOf sheet word out .0 .number ≡ 0) ↔ ((c : ℕ) × CodewordOf x c × (changed x word c ≤ t))
     -- then the buffer afterwards is a word without spare bits whose places are a codeword c that differs in at most t places, the value
     -- returned is the number of places in which c and the received word differ, and every other codeword differs in more than t places
     pub decoded : IsAccepted sheet → (word out : List ℕ) → Word x word → length out ≡ (x .n + 7) / 8 → decodeOf sheet word out .0 .number ≡ 0

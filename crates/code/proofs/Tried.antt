@@ -21,7 +21,7 @@ use Rattle.document.specs.Sheet.{Stated}
 use Rattle.document.specs.Coset.{dimension}
 use Rattle.document.specs.Generator.{isCodeword}
 use Rattle.document.specs.Judge.{noMessage, sheetConditions, judgeConditions, dimensionOf, recordOf, judgeEntry}
-use Rattle.document.specs.Entry.{generatorOf, wordOf, nearestMessage, encodeConditions, encodeEntry, readConditions, readEntry}
+use Rattle.document.specs.Entry.{CodewordOf, generatorOf, wordOf, nearestMessage, encodeConditions, encodeEntry, readConditions, readEntry}
 use Rattle.document.specs.Entry.{decodeConditions, decodeEntry}
 use Rattle.document.specs.Card.{cardConditions, cardEntry}
 use Rattle.document.specs.Short.{short, stated, refusalsOf, judgeOf, encodeOf, readOf, decodeOf, cardOf}
@@ -29,7 +29,6 @@ use Rattle.document.proofs.Reflect.{Says, not-iff, eqb-iff, not-eq-iff}
 use Rattle.document.proofs.Meaning.{length-iff, code-length-iff, header-iff, representative-iff, degree-iff, no-message-iff, spare-iff}
 use Rattle.certificate.proofs.Sheets as Sheets
 use Rattle.code.specs.Turns.{NoneHolds}
-use Rattle.code.specs.Published.{CodewordOf}
 use Rattle.code.specs.Table.{WrongCodeLength, NoMessage, WrongBufferLength, SpareBit, NoneNear, headTurns, sheetTurns, encodeOwn, encodeTurns}
 use Rattle.code.specs.Table.{readOwn, readTurns, decodeOwn, decodeTurns, cardTurns, lastRefusal, Answered}
 use Rattle.code.proofs.InTurn.{Said, said-none, said-append, answered, judged-answered}
@@ -116,18 +115,9 @@ module _ (sheet : List ℕ) where
   unfolding dimensionOf generatorOf
   codeword-said word = (λ e. record { small = mask-lt wordWeight (x .n) word; is = e }, λ c. c .is)
 
-  pub codeword-there : {c : ℕ} → CodewordOf x c → Sheets.SheetCodeword x c
-  unfolding dimensionOf generatorOf
-  codeword-there w = record { small = w .small; is = w .is }
-
-  pub codeword-back : {c : ℕ} → Sheets.SheetCodeword x c → CodewordOf x c
-  unfolding dimensionOf generatorOf
-  codeword-back w = record { small = w .small; is = w .is }
-
   pub near-said : Sheets.Accepted x → (word : List ℕ) → Says (eqb (nearestMessage x word) (2 ^ dimensionOf x)) (NoneNear x word)
   near-said a word =
-      Iff·trans (eqb-iff (nearestMessage x word) (2 ^ dimensionOf x))
-      (Iff·trans (Sheets.sheet-none a word) (λ f c w. f c (codeword-there w), λ f c w. f c (codeword-back w)))
+      Iff·trans (eqb-iff (nearestMessage x word) (2 ^ dimensionOf x)) (Sheets.sheet-none a word)
 
   -- ---- the entries
   module _ (input out : List ℕ) where

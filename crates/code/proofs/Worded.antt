@@ -33,7 +33,7 @@ use Rattle.document.specs.Coset.{inSet}
 use Rattle.document.specs.Generator.{generatorPoly, isCodeword, messageOf, differences}
 use Rattle.document.specs.Certificate.{distance, radius}
 use Rattle.document.specs.Judge.{sheetConditions, certificateConditions, judgeConditions, dimensionOf, workingOf, workingCertificate, recordOf}
-use Rattle.document.specs.Entry.{generatorOf, radiusOf, wordOf, encodedWord}
+use Rattle.document.specs.Entry.{CodewordOf, generatorOf, radiusOf, wordOf, encodedWord, changed}
 use Rattle.document.specs.Short.{short, stated, judgeOf, encodeOf, readOf, decodeOf}
 use Rattle.document.proofs.Chain.{first-keep}
 use Rattle.document.proofs.GeneratorIs.{generator-digit, generator-is, generator-degree}
@@ -44,12 +44,12 @@ use Rattle.codeword.proofs.Places.{word-weights, message-weights, mask-coeffici
 use Rattle.certificate.proofs.Sheets as Sheets
 use Rattle.certificate.proofs.Decoding as Decoding
 use Rattle.code.specs.Turns.{NoneHolds}
-use Rattle.code.specs.Published.{IsAccepted, Places, Bytes, Word, Message, CodewordOf, InDefiningSet, SetSize, HasDegree, Divides, ZeroAt, changes, Published, Rounded, WorkingIs}
+use Rattle.code.specs.Published.{IsAccepted, Places, Bytes, Word, Message, InDefiningSet, SetSize, HasDegree, Divides, ZeroAt, Published, Rounded, WorkingIs}
 use Rattle.code.specs.Published.{Systematic, WordDecoded}
 use Rattle.code.specs.Table.{NoneNear, headTurns}
 use Rattle.code.proofs.InTurn.{said-none, said-le, said-quiet}
 use Rattle.code.proofs.Rules.{published-iff, rounded-of}
-use Rattle.code.proofs.Tried.{odd-length, head-said, codeword-said, codeword-there, codeword-back}
+use Rattle.code.proofs.Tried.{odd-length, head-said, codeword-said}
 use Rattle.code.proofs.RoundTrip as RoundTrip
 
 -- ---- places in bytes
@@ -162,7 +162,7 @@ module _ (sheet : List ℕ) where
 
     pub distance-said : (i : ℕ) → i < length (x .certificates) → (c d : ℕ) → CodewordOf x c → CodewordOf x d → c ≢ d
         → distance (certificateAt x i) ≤ differences (x .n) c d
-    distance-said i l c d v w ne = Sheets.sheet-distance a i l (codeword-there sheet v) (codeword-there sheet w) ne
+    distance-said i l c d v w ne = Sheets.sheet-distance a i l v w ne
 
     pub degree-said : (0 < orderOfTwo (x .n)) × (x .n ∣ 2 ^ orderOfTwo (x .n) - 1)
         × ((q : ℕ) → 0 < q → x .n ∣ 2 ^ q - 1 → orderOfTwo (x .n) ≤ q)
@@ -299,41 +299,41 @@ module _ (sheet : List ℕ) where
       unfolding bytesFor
       form = let p = places-there w in record { word-long = p .long; out-long = l; clear = p .clear }
 
-      pub found-said : (decodeOf sheet word out .0 .number ≡ 0) ↔ ((c : ℕ) × CodewordOf x c × (changes x word c ≤ radiusOf x))
+      pub found-said : (decodeOf sheet word out .0 .number ≡ 0) ↔ ((c : ℕ) × CodewordOf x c × (changed x word c ≤ radiusOf x))
       found-said = (
         λ q. elim (Decoding.found-or-none short (omega arith) sheet e word out form) [
-          | inl f ↦ (f .0, codeword-back sheet (f .1), f .2)
+          | inl f ↦ (f .0, f .1, f .2)
           | inr f ↦ absurd (omega (arith, q, ap (λ (y : Answer × List ℕ). y .0 .number) (f .1)))
         ],
         λ f. sym (ap (λ (y : Answer × List ℕ). y .0 .number)
-            (Decoding.decode-found short (omega arith) sheet e word out form (codeword-there sheet (f .1)) (f .2))),
+            (Decoding.decode-found short (omega arith) sheet e word out form (f .1) (f .2))),
       )
 
       pub none-said : (decodeOf sheet word out .0 .number ≡ 13) ↔ NoneNear x word
       none-said = (
         λ q. elim (Decoding.found-or-none short (omega arith) sheet e word out form) [
           | inl f ↦ absurd (omega (arith, q, ap (λ (y : Answer × List ℕ). y .0 .number) (f .3)))
-          | inr f ↦ λ c v. f .0 c (codeword-there sheet v)
+          | inr f ↦ f .0
         ],
         λ f. sym (ap (λ (y : Answer × List ℕ). y .0 .number)
-            (Decoding.decode-none short (omega arith) sheet e word out form (λ c v. f c (codeword-back sheet v)))),
+            (Decoding.decode-none short (omega arith) sheet e word out form f)),
       )
 
       -- what is written is c in bytes
-      written : {c : ℕ} → CodewordOf x c → changes x word c ≤ radiusOf x
-          → WordDecoded x word (returned (changes x word c ∷ []), bytesOf wordWeight (x .n) c)
+      written : {c : ℕ} → CodewordOf x c → changed x word c ≤ radiusOf x
+          → WordDecoded x word (returned (changed x word c ∷ []), bytesOf wordWeight (x .n) c)
       written {c} v h =
           let q : wordOf x (bytesOf wordWeight (x .n) c) ≡ c = mask-of-bytes word-weights (x .n) c (v .small) in
           record {
             is-word = places-back (RoundTrip.placed-bytes word-weights (x .n) c (v .small));
             is-bytes = bytes-lt word-weights (x .n) c;
             is-codeword = subst (CodewordOf x) (sym q) v;
-            near = subst (λ (y : ℕ). changes x word y ≤ radiusOf x) (sym q) h;
-            counted = ap (λ (y : ℕ). changes x word y ∷ []) (sym q);
-            others = λ d u ne. elim (decLt (radiusOf x) (changes x word d)) [
+            near = subst (λ (y : ℕ). changed x word y ≤ radiusOf x) (sym q) h;
+            counted = ap (λ (y : ℕ). changed x word y ∷ []) (sym q);
+            others = λ d u ne. elim (decLt (radiusOf x) (changed x word d)) [
               | yes k ↦ k
               | no k ↦
-                  absurd (ne (Sheets.sheet-unique a (wordOf x word) (codeword-there sheet u) (codeword-there sheet v) (omega arith) h ∙ sym q))
+                  absurd (ne (Sheets.sheet-unique a (wordOf x word) u v (omega arith) h ∙ sym q))
             ];
           }
 
@@ -341,5 +341,5 @@ module _ (sheet : List ℕ) where
       decoded-said q =
           let f = found-said .0 q in
           subst (WordDecoded x word)
-          (Decoding.decode-found short (omega arith) sheet e word out form (codeword-there sheet (f .1)) (f .2))
+          (Decoding.decode-found short (omega arith) sheet e word out form (f .1) (f .2))
           (written (f .1) (f .2))

@@ -5,7 +5,7 @@
 --   IsAccepted sheet                 judging refuses nothing
 --   CertificateRead, SheetRead     what a sheet's bytes state
 --   Places, Bytes, Word, Message   words and messages in bytes
---   CodewordOf, InDefiningSet, SetSize, ZeroAt, changes      codewords, D and its size, a mask's value at α^i, and changed places
+--   InDefiningSet, SetSize, ZeroAt      D and its size, and a mask's value at α^i
 --   HasDegree, Divides, Coprime    the degree of a mask; d divides a; no number above 1 divides both
 --   Rule1 .. Rule4, Published      the rules of a certificate
 --   Rounded, WorkingIs             d, and the working certificate with d and t
@@ -22,10 +22,10 @@ use Rattle.field.specs.Field.{fieldPower, orderOfTwo, α}
 use Rattle.document.specs.Answer.{Answer}
 use Rattle.document.specs.Layout.{wordWeight, messageWeight, place, maskOf}
 use Rattle.document.specs.Sheet.{Certificate, Stated, certificateAt}
-use Rattle.document.specs.Generator.{valueAt, Codeword, differences}
+use Rattle.document.specs.Generator.{valueAt}
 use Rattle.document.specs.Certificate.{distance, radius}
 use Rattle.document.specs.Judge.{dimensionOf}
-use Rattle.document.specs.Entry.{generatorOf, radiusOf, wordOf}
+use Rattle.document.specs.Entry.{generatorOf, radiusOf, CodewordOf, wordOf, changed}
 use Rattle.document.specs.Short.{byteAt, judgeOf}
 
 -- ---- the words
@@ -66,10 +66,6 @@ Word x = Places wordWeight (x .n)
 abbrev pub Message : Stated → List ℕ → Type 0
 Message x = Places messageWeight (dimensionOf x)
 
--- a codeword of the code that is stated: n places that the generator divides
-abbrev pub CodewordOf : Stated → ℕ → Type 0
-CodewordOf x c = Codeword (x .n) (x .representatives) c
-
 -- i is r·2^j mod n for a representative r and some j
 abbrev pub InDefiningSet : ℕ → List ℕ → ℕ → Type 0
 InDefiningSet n reps i = (m : ℕ) × (m < length reps) × ((j : ℕ) × (getD reps m 0 * 2 ^ j % n ≡ i))
@@ -83,10 +79,6 @@ pub record SetSize (n : ℕ) (reps : List ℕ) (size : ℕ) : Type 0 where
 -- the value of the mask c at α^i is 0
 abbrev pub ZeroAt : Stated → ℕ → ℕ → Type 0
 ZeroAt x i c = let s : ℕ = orderOfTwo (x .n) in valueAt s (fieldPower s (α s (x .n)) i) c ≡ 0
-
--- in how many places a word in bytes differs from c
-abbrev pub changes : Stated → List ℕ → ℕ → ℕ
-changes x word c = differences (x .n) (wordOf x word) c
 
 -- ---- the published conditions of a certificate, with no search in them
 pub record HasDegree (f u : ℕ) : Type 0 where
@@ -180,6 +172,6 @@ pub record WordDecoded (x : Stated) (word : List ℕ) (reply : Answer × List �
   pub is-word : Word x (reply .1)
   pub is-bytes : Bytes (reply .1)
   pub is-codeword : CodewordOf x (wordOf x (reply .1))
-  pub near : changes x word (wordOf x (reply .1)) ≤ radiusOf x
-  pub counted : reply .0 .values ≡ changes x word (wordOf x (reply .1)) ∷ []
-  pub others : (c : ℕ) → CodewordOf x c → c ≢ wordOf x (reply .1) → radiusOf x < changes x word c
+  pub near : changed x word (wordOf x (reply .1)) ≤ radiusOf x
+  pub counted : reply .0 .values ≡ changed x word (wordOf x (reply .1)) ∷ []
+  pub others : (c : ℕ) → CodewordOf x c → c ≢ wordOf x (reply .1) → radiusOf x < changed x word c

@@ -16,10 +16,10 @@ use Rattle.document.specs.Answer.{Answer}
 use Rattle.document.specs.Layout.{wordWeight, messageWeight, place}
 use Rattle.document.specs.Sheet.{Certificate, Stated}
 use Rattle.document.specs.Judge.{dimensionOf}
-use Rattle.document.specs.Entry.{radiusOf, wordOf}
+use Rattle.document.specs.Entry.{CodewordOf, radiusOf, wordOf, changed}
 use Rattle.document.specs.Short.{byteAt, stated}
 use Rattle.code.specs.Turns.{Turns, FirstThatHolds, NoneHolds}
-use Rattle.code.specs.Published.{IsAccepted, CodewordOf, InDefiningSet, changes, Rule1, Rule2, Rule3, Rule4}
+use Rattle.code.specs.Published.{IsAccepted, InDefiningSet, Rule1, Rule2, Rule3, Rule4}
 
 -- 1: "under 10 or over 74 bytes, or bytes 0-1 differ from the true length"
 abbrev pub WrongSheetLength : List ℕ → Type 0
@@ -70,7 +70,7 @@ SpareBit weight n bytes = (i : ℕ) × (n ≤ i) × (i < (n + 7) / 8 * 8) × (pl
 
 -- 13: "no codeword within t places"
 abbrev pub NoneNear : Stated → List ℕ → Type 0
-NoneNear x word = (c : ℕ) → CodewordOf x c → radiusOf x < changes x word c
+NoneNear x word = (c : ℕ) → CodewordOf x c → radiusOf x < changed x word c
 
 -- "The sheet's conditions are tried in the order 1 to 6, then for each certificate in turn 7 to 10. Then come 11 (input, then output), 12,
 -- and last 13 or 14."

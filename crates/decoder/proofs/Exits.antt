@@ -9,7 +9,7 @@ use mathlib.Core.Path.{_≡_, sym, ap, ap₂, _∙_, subst}
 use mathlib.Core.Logic.{_≢_}
 use mathlib.Core.Bool.{true, false}
 use mathlib.Core.List.{List, [], _∷_}
-use Prim.Native.Nat.{ℕ, _-_, _^_, _≤_, _<_}
+use Prim.Native.Nat.{ℕ, _-_, _≤_, _<_}
 use native.Mathlib.Decide.{decLt}
 use native.Mathlib.Omega.{arith}
 use lib.ListN.{length, getD}
@@ -17,10 +17,8 @@ use Rattle.field.specs.Mask.{_⊕_, coefficient}
 use Rattle.document.specs.Answer.{Answer, returned, refused}
 use Rattle.document.specs.Layout.{wordWeight, bytesFor, maskOf, bytesOf, spare}
 use Rattle.document.specs.Sheet.{Stated}
-use Rattle.document.specs.Coset.{dimension}
-use Rattle.document.specs.Generator.{generator, isCodeword, Codeword, differences}
-use Rattle.document.specs.Judge.{dimensionOf}
-use Rattle.document.specs.Entry.{generatorOf, wrongSize, radiusOf, wordOf, decodedWord, decodeConditions, decodeEntry}
+use Rattle.document.specs.Generator.{Codeword, differences}
+use Rattle.document.specs.Entry.{CodewordOf, wrongSize, radiusOf, wordOf, decodedWord, decodeConditions, decodeEntry}
 use Rattle.document.proofs.Settled.{entry-refused, size-wrong, size-right}
 use Rattle.document.proofs.Chain.{silent, first-true, first-false}
 use Rattle.certificate.proofs.Sheets as Sheets
@@ -55,26 +53,13 @@ module _ {n : ℕ} (word : List ℕ) (a : length word ≡ bytesFor n) (d : spare
 
 -- ---- an accepted sheet that states x
 module _ {x : Stated} {n t : ℕ} {reps : List ℕ} (u : States x n t reps) where
-  generator-is : generator n reps ≡ generatorOf x
-  unfolding generatorOf
-  generator-is = ap₂ generator (u .n-is) (u .reps-is)
-
-  checks : n - dimension n reps ≡ x .n - dimensionOf x
-  unfolding dimensionOf
-  checks = ap₂ (λ (m : ℕ) (l : List ℕ). m - dimension m l) (u .n-is) (u .reps-is)
-
   -- its codewords are those of the code of its representatives
-  to-sheet : {c : ℕ} → Codeword n reps c → Sheets.SheetCodeword x c
-  to-sheet {c} w = record {
-    small = subst (λ (m : ℕ). c < 2 ^ m) (u .n-is) (w .small);
-    is = ap₂ (λ (m g : ℕ). isCodeword m g c) (sym checks) (sym generator-is) ∙ w .is;
-  }
+  to-sheet : {c : ℕ} → Codeword n reps c → CodewordOf x c
+  to-sheet {c} w = subst (λ (l : List ℕ). Codeword (x .n) l c) (u .reps-is) (subst (λ (m : ℕ). Codeword m reps c) (u .n-is) w)
 
-  of-sheet : {c : ℕ} → Sheets.SheetCodeword x c → Codeword n reps c
-  of-sheet {c} w = record {
-    small = subst (λ (m : ℕ). c < 2 ^ m) (sym (u .n-is)) (w .small);
-    is = ap₂ (λ (m g : ℕ). isCodeword m g c) checks generator-is ∙ w .is;
-  }
+  of-sheet : {c : ℕ} → CodewordOf x c → Codeword n reps c
+  of-sheet {c} w =
+      subst (λ (m : ℕ). Codeword m reps c) (sym (u .n-is)) (subst (λ (l : List ℕ). Codeword (x .n) l c) (sym (u .reps-is)) w)
 
   module _ (word out : List ℕ) where
     abbrev value : List ℕ

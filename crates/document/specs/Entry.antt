@@ -1,9 +1,9 @@
 -- The operations on messages and words, for a sheet of any kind: from the conditions of its refusals, what it states, and all that is
 -- handed over, to the answer and what the lent buffer holds afterwards.
 --
---   generatorOf, radiusOf      the generator and t of what is stated
+--   generatorOf, radiusOf, CodewordOf      the generator, t and the codewords of what is stated
 --   wrongSize            11: a buffer hasn't its exact length
---   encodedWord, wordOf  the codeword of a message, and a word in bytes, as masks
+--   encodedWord, wordOf  the codeword of a message, and a word in bytes, as masks; changed: in how many places a word differs from a mask
 --   nearestMessage, decodedWord      the codeword within t places of a word, by its message
 --   encodeConditions, readConditions, decodeConditions      11 to 14, in document 01's order, after the sheet's own
 --   encodeEntry conditions x message out, readEntry conditions x word out, decodeEntry conditions x word out      answer, and bytes
@@ -16,7 +16,7 @@ use lib.ListN.{length}
 use Rattle.document.specs.Answer.{Answer, Conditions, firstOf, settle}
 use Rattle.document.specs.Layout.{wordWeight, messageWeight, bytesFor, maskOf, bytesOf, spare}
 use Rattle.document.specs.Sheet.{Stated}
-use Rattle.document.specs.Generator.{generator, isCodeword, encodeMask, messageOf, differences, nearest}
+use Rattle.document.specs.Generator.{generator, isCodeword, Codeword, encodeMask, messageOf, differences, nearest}
 use Rattle.document.specs.Certificate.{radius}
 use Rattle.document.specs.Judge.{dimensionOf, workingCertificate}
 
@@ -25,6 +25,9 @@ generatorOf x = generator (x .n) (x .representatives)
 
 unfoldable pub radiusOf : Stated → ℕ
 radiusOf x = radius (workingCertificate x)
+
+abbrev pub CodewordOf : Stated → ℕ → Type 0
+CodewordOf x c = Codeword (x .n) (x .representatives) c
 
 -- 11: "a message, word or output buffer hasn't its exact length"
 abbrev pub wrongSize : ℕ → List ℕ → Bool
@@ -51,6 +54,10 @@ encodeEntry conditions x message out =
 -- ---- reading out: 14 is "the word is no codeword"
 abbrev pub wordOf : Stated → List ℕ → ℕ
 wordOf x word = maskOf wordWeight (x .n) word
+
+-- in how many places a word differs from the mask c
+abbrev pub changed : Stated → List ℕ → ℕ → ℕ
+changed x word c = differences (x .n) (wordOf x word) c
 
 unfoldable pub readConditions : Stated → List ℕ → List ℕ → Conditions
 readConditions x word out =
@@ -89,5 +96,5 @@ decodeConditions x word out =
 unfoldable pub decodeEntry : Conditions → Stated → List ℕ → List ℕ → Answer × List ℕ
 decodeEntry conditions x word out =
     settle (firstOf (conditions ++ decodeConditions x word out))
-    (differences (x .n) (wordOf x word) (decodedWord x word) ∷ [])
+    (changed x word (decodedWord x word) ∷ [])
     (bytesOf wordWeight (x .n) (decodedWord x word)) out

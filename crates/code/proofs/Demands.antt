@@ -94,9 +94,9 @@ module _ (sheet : List ℕ) where
   pub record Demand2 : Type 0 where
     -- "place i has weight 2^(i mod 8) in byte i div 8, for words and messages", and is "the coefficient of x^i"
     pub places : (bytes : List ℕ) (i : ℕ)
-        → (place wordWeight bytes i ≡ getD bytes (i / 8) 0 / 2 ^ (i % 8) % 2)
+        → (place wordWeight bytes i ≡ getD bytes (i / 8) 0 / 2 ^ (7 - i % 8) % 2)
         × (place messageWeight bytes i ≡ getD bytes (i / 8) 0 / 2 ^ (i % 8) % 2)
-    pub word-places : (word : List ℕ) (i : ℕ) → i < x .n → coefficient i (wordOf x word) ≡ getD word (i / 8) 0 / 2 ^ (i % 8) % 2
+    pub word-places : (word : List ℕ) (i : ℕ) → i < x .n → coefficient i (wordOf x word) ≡ getD word (i / 8) 0 / 2 ^ (7 - i % 8) % 2
     pub message-places : (message : List ℕ) (i : ℕ) → i < k
         → coefficient i (maskOf messageWeight k message) ≡ getD message (i / 8) 0 / 2 ^ (i % 8) % 2
     -- words in bytes and masks of n places are the same

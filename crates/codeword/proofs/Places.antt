@@ -47,19 +47,7 @@ pub record Weights (w : ℕ → ℕ) : Type 0 where
   pub shift-back : (e : ℕ) → e < 8 → shift (back e) ≡ e
   pub back-shift : (r : ℕ) → r < 8 → back (shift r) ≡ r
 
--- the lowest digit first
-abbrev pub low-first : {w : ℕ → ℕ} → ((i : ℕ) → w i ≡ 2 ^ (i % 8)) → Weights w
-low-first e = record {
-  shift = λ r. r;
-  back = λ e. e;
-  is = e;
-  shift-lt = λ r h. h;
-  back-lt = λ e h. h;
-  shift-back = λ e h. refl;
-  back-shift = λ r h. refl;
-}
-
-pub word-is : (i : ℕ) → wordWeight i ≡ 2 ^ (i % 8)
+pub word-is : (i : ℕ) → wordWeight i ≡ 2 ^ (7 - i % 8)
 unfolding wordWeight
 word-is i = refl
 
@@ -67,11 +55,29 @@ pub message-is : (i : ℕ) → messageWeight i ≡ 2 ^ (i % 8)
 unfolding messageWeight
 message-is i = refl
 
+-- the highest digit first
 abbrev pub word-weights : Weights wordWeight
-word-weights = low-first word-is
+word-weights = record {
+  shift = λ r. 7 - r;
+  back = λ e. 7 - e;
+  is = word-is;
+  shift-lt = λ r h. omega arith;
+  back-lt = λ e h. omega arith;
+  shift-back = λ e h. omega arith;
+  back-shift = λ r h. omega arith;
+}
 
+-- the lowest digit first
 abbrev pub message-weights : Weights messageWeight
-message-weights = low-first message-is
+message-weights = record {
+  shift = λ r. r;
+  back = λ e. e;
+  is = message-is;
+  shift-lt = λ r h. h;
+  back-lt = λ e h. h;
+  shift-back = λ e h. refl;
+  back-shift = λ r h. refl;
+}
 
 pub place-lt : (w : ℕ → ℕ) (l : List ℕ) (i : ℕ) → place w l i < 2
 unfolding place

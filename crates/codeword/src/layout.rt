@@ -9,7 +9,7 @@ pub fn word_place(bytes: &[u8], i: usize) -> u8
     requires { ⌜ i / 8 < length (now bytes) ⌝ }
     ensures { λ r. ⌜ r ≡ place wordWeight (now (bytes .entry)) i ⌝ }
 {
-    (bytes[i / 8] >> (i % 8)) & 1
+    (bytes[i / 8] >> (7 - i % 8)) & 1
 }
 
 pub fn message_place(bytes: &[u8], i: usize) -> u8
@@ -23,7 +23,7 @@ pub fn set_word_place(bytes: &mut [u8], i: usize, bit: u8)
     requires { ⌜ (i / 8 < length (now bytes)) × (bit < 2) ⌝ }
     ensures { λ _. ⌜ Put wordWeight i bit (now (bytes .entry)) (now (bytes .exit)) ⌝ }
 {
-    bytes[i / 8] = (bytes[i / 8] & !(1 << (i % 8))) | (bit << (i % 8));
+    bytes[i / 8] = (bytes[i / 8] & !(1 << (7 - i % 8))) | (bit << (7 - i % 8));
 }
 
 pub fn set_message_place(bytes: &mut [u8], i: usize, bit: u8)

@@ -1,5 +1,5 @@
 -- The twelve cases of document 01, "Known sheets and words", as one table that the definitions hold; the fourteen examples of
--- its table of refusals as a second; and listings.
+-- its table of refusals as a second, 12 and 14 as 2026-01 has them; and listings.
 --
 --   sheetH, sheetE, sheetS, sheetB      the known sheets, in bytes
 --   facts, encodes, decodes             what the definitions say, as numbers
@@ -153,9 +153,9 @@ refusals =
     ∷ judged (oneCertificate 21 (1 ∷ []) 1 1 7 1 2)  -- n = 21, f = 7, h = 1
     ∷ judged (sheetS 10)  -- n = 17, case 11 below
     ∷ decoded sheetH []  -- empty word
-    ∷ decoded sheetH (0x80 ∷ [])  -- n = 7, word 80
-    ∷ decoded (sheetE 3) (3 ∷ [])  -- case 8 below
-    ∷ readOut sheetH (0x01 ∷ [])  -- n = 7, representative 1, word 01
+    ∷ decoded sheetH (0x01 ∷ [])  -- n = 7, word 01
+    ∷ decoded (sheetE 3) (0xC0 ∷ [])  -- case 8 below
+    ∷ readOut sheetH (0x80 ∷ [])  -- n = 7, representative 1, word 80
     ∷ []
 
 refusals-hold : refusals ≡ 1 ∷ 2 ∷ 3 ∷ 4 ∷ 5 ∷ 6 ∷ 7 ∷ 8 ∷ 9 ∷ 10 ∷ 11 ∷ 12 ∷ 13 ∷ 14 ∷ []
@@ -168,6 +168,10 @@ twoCertificates n reps c d = sheetOf n reps (c ++ d) (26 + length reps) 2
 
 certificateOf : ℕ → ℕ → ℕ → ℕ → ℕ → ℕ → List ℕ
 certificateOf b z f high h L = b ∷ z ∷ f ∷ high ∷ h ∷ 0 ∷ L ∷ 0 ∷ []
+
+-- n = 9, k = 8, with seven spare bits in a word and none in a message
+nine : List ℕ
+nine = oneCertificate 9 (0 ∷ []) 0 1 3 1 1
 
 record-of : List ℕ → List ℕ
 record-of sheet = let a : Answer = judgeOf sheet in a .number ∷ a .values
@@ -194,14 +198,15 @@ near =
     ∷ record-of (oneCertificate 7 (3 ∷ 1 ∷ 0 ∷ []) 1 1 3 1 2)  -- a representative may be below that before it; 6 tried before 5
     ∷ record-of (sheetOf 7 [] (certificateOf 0 1 7 0 2 1) 18 1)  -- R = 0 refused; a term that is 0 held to D
     ∷ (generatorOf (stated (sheetB 4)) ∷ decodes (sheetB 4) 466)  -- another root of order n for α: with α^14 the generator is 279
-    ∷ answered (encodeOf (oneCertificate 9 (0 ∷ []) 0 1 3 1 1) (1 ∷ []) (0xAA ∷ 0xBB ∷ []))  -- a byte more for k = 8, or one less for n = 9
+    ∷ answered (encodeOf nine (0x83 ∷ []) (0xAA ∷ 0xBB ∷ []))  -- a byte more for k = 8, or one less for n = 9; messages high bit first, words low bit first; place 8 at the low end
+    ∷ answered (readOf nine (0xE0 ∷ 0xC0 ∷ []) (0xAA ∷ []))  -- the lowest spare bit alone looked at, or those at the high end
     ∷ answered (encodeOf sheetH (0x12 ∷ []) (0xAA ∷ []))  -- a message's spare bits taken from n on, not from k; the output written beside 12
-    ∷ answered (readOf sheetH (11 ∷ []) (0xAA ∷ []))  -- the message taken from the low places; every word refused
-    ∷ answered (readOf sheetH (10 ∷ []) (0xAA ∷ []))  -- the output written beside 14
-    ∷ answered (decodeOf sheetH (10 ∷ []) (0xAA ∷ []))  -- old bits of the output kept, or a spare one of them refused
-    ∷ answered (decodeOf sheetH (0x8A ∷ []) (0xAA ∷ 0xBB ∷ []))  -- an output too long taken; 12 tried before it
-    ∷ answered (decodeOf (sheetE 3) (0x83 ∷ []) (0xAA ∷ []))  -- 13 tried before 12
-    ∷ answered (decodeOf (sheetE 3) (3 ∷ []) (0xAA ∷ []))  -- the output cleared, or a word written, beside 13
+    ∷ answered (readOf sheetH (0xD0 ∷ []) (0xAA ∷ []))  -- the message taken from the low places; a bit at the high end taken for spare; every word refused
+    ∷ answered (readOf sheetH (0x50 ∷ []) (0xAA ∷ []))  -- the output written beside 14
+    ∷ answered (decodeOf sheetH (0x50 ∷ []) (0xAB ∷ []))  -- old bits of the output kept, or a spare one of them refused
+    ∷ answered (decodeOf sheetH (0x51 ∷ []) (0xAA ∷ 0xBB ∷ []))  -- an output too long taken; 12 tried before it
+    ∷ answered (decodeOf (sheetE 3) (0xC1 ∷ []) (0xAA ∷ []))  -- 13 tried before 12
+    ∷ answered (decodeOf (sheetE 3) (0xC0 ∷ []) (0xAA ∷ []))  -- the output cleared, or a word written, beside 13
     ∷ answered (cardOf sheetH (0xAA ∷ []))  -- what fits of the listing written beside 11
     ∷ []
 
@@ -223,17 +228,18 @@ near-hold : near
     ∷ (5 ∷ [])
     ∷ (0 ∷ 7 ∷ 7 ∷ 3 ∷ 0 ∷ 1 ∷ 0 ∷ 1 ∷ [])
     ∷ (465 ∷ 0 ∷ 2 ∷ 465 ∷ [])
-    ∷ (0 ∷ 0 ∷ 3 ∷ 0 ∷ [])
+    ∷ (0 ∷ 0 ∷ 0xE0 ∷ 0x80 ∷ [])
+    ∷ (12 ∷ 0xAA ∷ [])
     ∷ (12 ∷ 0xAA ∷ [])
     ∷ (0 ∷ 0 ∷ 1 ∷ [])
     ∷ (14 ∷ 0xAA ∷ [])
-    ∷ (0 ∷ 1 ∷ 11 ∷ [])
+    ∷ (0 ∷ 1 ∷ 0xD0 ∷ [])
     ∷ (11 ∷ 0xAA ∷ 0xBB ∷ [])
     ∷ (12 ∷ 0xAA ∷ [])
     ∷ (13 ∷ 0xAA ∷ [])
     ∷ (11 ∷ 0xAA ∷ [])
     ∷ []
-unfolding near record-of answered decodes twoCertificates certificateOf sheetH sheetE sheetS sheetB oneCertificate sheetOf cardEntry cardConditions definitions
+unfolding near nine record-of answered decodes twoCertificates certificateOf sheetH sheetE sheetS sheetB oneCertificate sheetOf cardEntry cardConditions definitions
 near-hold = refl
 
 -- ---- the listing: that of document 01, and rows beside which stand the misreadings that they catch

@@ -13,10 +13,11 @@ use lib.ListN.{getD}
 use Rattle.field.specs.Search.{upTo, some, total}
 use Rattle.field.specs.Mask.{coefficient}
 
--- "In bytes, place i has weight 2^(i mod 8) in byte i div 8, for words and messages."
+-- "place i of a word has weight 2^(7 - i mod 8) in byte i div 8." (2026-01)
 unfoldable pub wordWeight : ℕ → ℕ
-wordWeight i = 2 ^ (i % 8)
+wordWeight i = 2 ^ (7 - i % 8)
 
+-- "Messages keep 01's order": "In bytes, place i has weight 2^(i mod 8) in byte i div 8".
 unfoldable pub messageWeight : ℕ → ℕ
 messageWeight i = 2 ^ (i % 8)
 

@@ -7,11 +7,17 @@ use Rattle.codeword.proofs.layout.set_word_place.Tie as tie
 slice-read-bytes : tie.Need-slice-read-bytes
 slice-read-bytes c = search needs
 
+sub-bytes : tie.Need-sub-bytes
+sub-bytes c = search needs
+
 cast-bytes : tie.Need-cast-bytes
 cast-bytes c = search needs
 
 shl-bytes : tie.Need-shl-bytes
 shl-bytes c = search needs
+
+sub-bytes-2 : tie.Need-sub-bytes-2
+sub-bytes-2 c = search needs
 
 cast-bytes-2 : tie.Need-cast-bytes-2
 cast-bytes-2 c = search needs
@@ -33,8 +39,10 @@ set-word-place-spec =
     tie.close
     (tie.spec
     slice-read-bytes
+    sub-bytes
     cast-bytes
     shl-bytes
+    sub-bytes-2
     cast-bytes-2
     shl-bytes-2
     slice-write-bytes

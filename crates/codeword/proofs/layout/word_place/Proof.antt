@@ -7,6 +7,9 @@ use Rattle.codeword.proofs.layout.word_place.Tie as tie
 shared-slice-read-result : tie.Need-shared-slice-read-result
 shared-slice-read-result c = search needs
 
+sub-result : tie.Need-sub-result
+sub-result c = search needs
+
 cast-result : tie.Need-cast-result
 cast-result c = search needs
 
@@ -18,4 +21,4 @@ returns c = read word-weights _ _
 
 pub word-place-spec : {M : Type 1} → statement M
 word-place-spec =
-    tie.close (tie.spec shared-slice-read-result cast-result shr-result returns)
+    tie.close (tie.spec shared-slice-read-result sub-result cast-result shr-result returns)

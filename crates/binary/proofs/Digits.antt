@@ -1,6 +1,7 @@
 -- Numbers by their binary digits: masks of single digits, and sums of different powers of two.
 --
 --   coefficient-or, coefficient-and      of a union and a meet
+--   digit-low                of what is left modulo a power of two
 --   pow-same, pow-other, digit-same, digit-other      the digits of a power of two, and of a digit times it
 --   below-pow                a number whose digits are 0 from m on is below 2^m
 --   put-same, put-other      a byte with digit p cleared and then set to x
@@ -14,7 +15,7 @@ use native.Mathlib.Decide.{ℕ-discrete, decLt}
 use native.Mathlib.Omega.{arith}
 use lib.Dec.{eqb}
 use lib.Bits.{bitOr, bitAnd, or-step, and-step, or-shr, and-shr, or-disjoint}
-use lib.Pow.{pow-pos, pow-lt, pow-add, shl-shr, shr-shr}
+use lib.Pow.{pow-pos, pow-lt, pow-add, shl-shr, shr-shr, field, mod-mod-pow}
 use borrow.Author.Tests.{eqb-true}
 use Rattle.field.specs.Search.{upTo, every, total}
 use Rattle.field.specs.Mask.{coefficient}
@@ -33,6 +34,12 @@ coefficient-and i a b =
     let x = a / 2 ^ i in
     let y = b / 2 ^ i in
     ap (λ (n : ℕ). n % 2) (and-shr a b i ∙ and-step x y) ∙ omega arith
+
+-- a digit of what is left modulo a power of two
+pub digit-low : (i m a : ℕ) → i < m → coefficient i (a % 2 ^ m) ≡ coefficient i a
+digit-low i m a h =
+    let e : m ≡ m - i - 1 + 1 + i = omega arith in
+    ap (λ (k : ℕ). a % 2 ^ k / 2 ^ i % 2) e ∙ ap (λ (x : ℕ). x % 2) (field a (m - i - 1 + 1) i) ∙ mod-mod-pow (a / 2 ^ i) (m - i - 1) 1
 
 -- ---- a power of two
 pub pow-same : (p : ℕ) → coefficient p (2 ^ p) ≡ 1

@@ -1,4 +1,4 @@
--- The three demands, each one theorem about the entries. This is the file to read first.
+-- The three demands, each one theorem about the entries, and what document 02's requests state. This is the file to read first.
 --
 -- It speaks of judgeOf, encodeOf, readOf, decodeOf and cardOf (document/specs/Short.antt). The contract of each entry is one equation: reply and
 -- bytes are, in document 01's numbers, what these give, whatever is handed over. So what is said of them is said of the entries.
@@ -6,14 +6,15 @@
 --   Demand1, demand-1      every answer, and every refusal exactly at its turn
 --   Demand2, demand-2      codewords, encoding and reading out; certificates, and the distance that they yield
 --   Demand3, demand-3      decoding
+--   Request01, request-01      2026-01, highest bit first: how words and messages lie in bytes
 -- A record for each demand, a field for each clause, under the clause's words. Each is for every list of bytes that may be a sheet; x is
--- what it states. The words are in specs/Published.antt and specs/Table.antt, under document 01's sentences. That the field's masks are the smallest
+-- what it states. A record for each request, likewise. The words are in specs/Published.antt and specs/Table.antt, under document 01's sentences. That the field's masks are the smallest
 -- primitive ones is mask-least of field/proofs/Smallest.antt; examples, 13 with a buffer that was not 0 among them, are the tables of
 -- document/proofs/Cases.antt.
-use mathlib.Core.Path.{_≡_}
+use mathlib.Core.Path.{_≡_, refl}
 use mathlib.Core.Logic.{_≢_, _↔_, _⊎_}
 use mathlib.Core.List.{List, [], _∷_, _++_}
-use Prim.Native.Nat.{ℕ, _+_, _-_, _/_, _%_, _^_, _≤_, _<_, _∣_}
+use Prim.Native.Nat.{ℕ, _+_, _-_, _*_, _/_, _%_, _^_, _≤_, _<_, _∣_}
 use lib.ListN.{length, getD, drop}
 use Rattle.field.specs.Search.{total}
 use Rattle.field.specs.Mask.{coefficient}
@@ -28,16 +29,16 @@ use Rattle.document.specs.Entry.{CodewordOf, generatorOf, radiusOf, wordOf, cha
 use Rattle.document.specs.Card.{refusedLine, acceptedLines}
 use Rattle.document.specs.Short.{stated, judgeOf, encodeOf, readOf, decodeOf, listing, cardOf}
 use Rattle.document.proofs.Meaning.{differ-count}
-use Rattle.codeword.proofs.Places.{mask-lt}
+use Rattle.codeword.proofs.Places.{mask-lt, mask-coefficient}
 use Rattle.code.specs.Published.{IsAccepted, SheetRead, Bytes, Word, Message, InDefiningSet, SetSize, ZeroAt}
 use Rattle.code.specs.Published.{HasDegree, Divides, Published, Rounded, WorkingIs, Systematic, WordDecoded}
-use Rattle.code.specs.Table.{NoneNear, sheetTurns, encodeTurns, readTurns, decodeTurns, cardTurns}
+use Rattle.code.specs.Table.{SpareBit, NoneNear, sheetTurns, encodeTurns, readTurns, decodeTurns, cardTurns}
 use Rattle.code.specs.Table.{NoneNearSaid, NoCodewordSaid, Answered}
 use Rattle.code.proofs.Tried.{judge-answered, encode-answered, read-answered, decode-answered, card-answered}
 use Rattle.code.proofs.Refusing.{read-sheet-bytes, sheet-first, card-writes, text-refused-iff, text-listed-iff}
 use Rattle.code.proofs.Refusing.{thirteen-iff, fourteen-iff}
 use Rattle.code.proofs.Fits.{listing-fits}
-use Rattle.code.proofs.Worded.{place-is, word-place, mask-word, word-one, degree-said, dimension-said, generator-said}
+use Rattle.code.proofs.Worded.{word-spare-said, message-spare-said, mask-word, word-one, degree-said, dimension-said, generator-said}
 use Rattle.code.proofs.Worded.{generator-degree-said, multiple-said, zeros-said}
 use Rattle.code.proofs.Worded.{encodes-said, reads-said, refused-said, certificate-published, accepted-published}
 use Rattle.code.proofs.Worded.{rounded-said, distance-said, working-said, record-said, found-said, decoded-said, none-said, apart-said}
@@ -92,13 +93,9 @@ module _ (sheet : List ℕ) where
 
   -- ---- demand 2: for every accepted sheet, in bytes
   pub record Demand2 : Type 0 where
-    -- "place i has weight 2^(i mod 8) in byte i div 8, for words and messages", and is "the coefficient of x^i"
-    pub places : (bytes : List ℕ) (i : ℕ)
-        → (place wordWeight bytes i ≡ getD bytes (i / 8) 0 / 2 ^ (7 - i % 8) % 2)
-        × (place messageWeight bytes i ≡ getD bytes (i / 8) 0 / 2 ^ (i % 8) % 2)
-    pub word-places : (word : List ℕ) (i : ℕ) → i < x .n → coefficient i (wordOf x word) ≡ getD word (i / 8) 0 / 2 ^ (7 - i % 8) % 2
-    pub message-places : (message : List ℕ) (i : ℕ) → i < k
-        → coefficient i (maskOf messageWeight k message) ≡ getD message (i / 8) 0 / 2 ^ (i % 8) % 2
+    -- "place i the coefficient of x^i"; where in the bytes place i stands is `word-order` and `message-order` of Request01
+    pub word-places : (word : List ℕ) (i : ℕ) → i < x .n → coefficient i (wordOf x word) ≡ place wordWeight word i
+    pub message-places : (message : List ℕ) (i : ℕ) → i < k → coefficient i (maskOf messageWeight k message) ≡ place messageWeight message i
     -- words in bytes and masks of n places are the same
     pub word-mask : (word : List ℕ) → wordOf x word < 2 ^ x .n
     pub mask-word : (c : ℕ) → c < 2 ^ x .n → (word : List ℕ) × Word x word × Bytes word × (wordOf x word ≡ c)
@@ -163,6 +160,19 @@ module _ (sheet : List ℕ) where
     -- any two different codewords differ in at least d places
     pub apart : IsAccepted sheet → (c c′ : ℕ) → CodewordOf x c → CodewordOf x c′ → c ≢ c′ → d ≤ differences (x .n) c c′
 
+-- ---- 2026-01, highest bit first: for all bytes
+pub record Request01 : Type 0 where
+  -- "place i of a word has weight 2^(7 - i mod 8) in byte i div 8"
+  pub word-order : (word : List ℕ) (i : ℕ) → place wordWeight word i ≡ getD word (i / 8) 0 / 2 ^ (7 - i % 8) % 2
+  -- "A word's spare bits are then the low bits of its last byte": as many as its places leave of its bytes
+  pub word-spare : (n : ℕ) (word : List ℕ) → 1 ≤ n → length word ≡ (n + 7) / 8
+      → SpareBit wordWeight n word ↔ (getD word (length word - 1) 0 % 2 ^ (8 * length word - n) ≢ 0)
+  -- "Messages keep 01's order", 2^(i mod 8)
+  pub message-order : (message : List ℕ) (i : ℕ) → place messageWeight message i ≡ getD message (i / 8) 0 / 2 ^ (i % 8) % 2
+  -- and their spare bits are the high bits of their last byte
+  pub message-spare : (k : ℕ) (message : List ℕ) → 1 ≤ k → length message ≡ (k + 7) / 8 → Bytes message
+      → SpareBit messageWeight k message ↔ (getD message (length message - 1) 0 / 2 ^ (8 - (8 * length message - k)) ≢ 0)
+
 -- ---- they hold
 pub demand-1 : (sheet : List ℕ) → Demand1 sheet
 demand-1 sheet = record {
@@ -182,11 +192,9 @@ demand-1 sheet = record {
 }
 
 pub demand-2 : (sheet : List ℕ) → Demand2 sheet
-unfolding wordWeight messageWeight
 demand-2 sheet = record {
-  places = λ bytes i. (place-is wordWeight bytes i, place-is messageWeight bytes i);
-  word-places = word-place wordWeight (stated sheet .n);
-  message-places = word-place messageWeight (dimensionOf (stated sheet));
+  word-places = mask-coefficient wordWeight (stated sheet .n);
+  message-places = mask-coefficient messageWeight (dimensionOf (stated sheet));
   word-mask = mask-lt wordWeight (stated sheet .n);
   mask-word = mask-word (stated sheet);
   word-one = word-one (stated sheet);
@@ -214,4 +222,13 @@ demand-3 sheet = record {
   decoded = decoded-said sheet;
   none = none-said sheet;
   apart = apart-said sheet;
+}
+
+pub request-01 : Request01
+unfolding wordWeight messageWeight place
+request-01 = record {
+  word-order = λ word i. refl;
+  word-spare = word-spare-said;
+  message-order = λ message i. refl;
+  message-spare = message-spare-said;
 }

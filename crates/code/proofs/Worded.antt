@@ -1,7 +1,7 @@
 -- Demands 2 and 3 in the words of specs/Published.antt: for every sheet of document 01's kind.
 --
 --   places-there, places-back      places in bytes, by a test for spare bits and without
---   place-is, word-place     place i in bytes, and as a coefficient
+--   word-spare-said, message-spare-said      the spare bits are the low, or the high, bits of the last byte
 --   mask-word, word-one      words and masks of n places
 --   generator-said, generator-degree-said      the generator's coefficients, and its degree
 --   multiple-said, zeros-said      what a codeword is
@@ -27,7 +27,7 @@ use Rattle.field.proofs.Xor.{digit-lt}
 use Rattle.field.proofs.OrderOfTwo.{order-pos, order-divides, order-least}
 use Rattle.field.specs.Search.{bit}
 use Rattle.document.specs.Answer.{Answer, returned, refused, firstOf}
-use Rattle.document.specs.Layout.{wordWeight, bytesFor, place, maskOf, bytesOf, spare}
+use Rattle.document.specs.Layout.{wordWeight, messageWeight, bytesFor, place, bytesOf, spare}
 use Rattle.document.specs.Sheet.{Stated, certificateAt}
 use Rattle.document.specs.Coset.{inSet}
 use Rattle.document.specs.Generator.{generatorPoly, isCodeword, messageOf, differences}
@@ -40,13 +40,14 @@ use Rattle.document.proofs.GeneratorIs.{generator-digit, generator-is, generato
 use Rattle.document.proofs.Acceptance.{Rules, judge-number, certificate-iff, accepted-rules, accepted-record}
 use Rattle.document.proofs.Meaning.{set-iff, dimension-sum, spare-iff, radius-is, working-iff}
 use Rattle.binary.proofs.Meaning.{factor-iff}
-use Rattle.codeword.proofs.Places.{word-weights, message-weights, mask-coefficient, bytes-lt, mask-of-bytes, bytes-of-mask}
+use Rattle.codeword.proofs.Places.{word-weights, message-weights, bytes-lt, mask-of-bytes, bytes-of-mask}
+use Rattle.codeword.proofs.Spare.{word-clear-iff, message-clear-iff}
 use Rattle.certificate.proofs.Sheets as Sheets
 use Rattle.certificate.proofs.Decoding as Decoding
 use Rattle.code.specs.Turns.{NoneHolds}
 use Rattle.code.specs.Published.{IsAccepted, Places, Bytes, Word, Message, InDefiningSet, SetSize, HasDegree, Divides, ZeroAt, Published, Rounded, WorkingIs}
 use Rattle.code.specs.Published.{Systematic, WordDecoded}
-use Rattle.code.specs.Table.{NoneNear, headTurns}
+use Rattle.code.specs.Table.{SpareBit, NoneNear, headTurns}
 use Rattle.code.proofs.InTurn.{said-none, said-le, said-quiet}
 use Rattle.code.proofs.Rules.{published-iff, rounded-of}
 use Rattle.code.proofs.Tried.{odd-length, head-said, codeword-said}
@@ -74,14 +75,30 @@ module _ {weight : ℕ → ℕ} {n : ℕ} {bytes : List ℕ} where
     ];
   }
 
-pub place-is : (weight : ℕ → ℕ) (bytes : List ℕ) (i : ℕ) → place weight bytes i ≡ getD bytes (i / 8) 0 / weight i % 2
-unfolding place
-place-is weight bytes i = refl
+-- a spare bit is 1 ⟺ what says that none is does not hold
+spare-said : {P : Type 0} (weight : ℕ → ℕ) (n : ℕ) (bytes : List ℕ) → (spare weight n bytes ≡ false) ↔ P
+    → SpareBit weight n bytes ↔ (¬ P)
+unfolding bytesFor
+spare-said {P} weight n bytes clear = (
+  λ b p. true-ne-false (spare-iff weight n bytes .1 b) (clear .1 p),
+  λ none. one none (spare weight n bytes) refl,
+)
+  where
+    one : ¬ P → (b : Bool) → spare weight n bytes ≡ b → SpareBit weight n bytes
+    one none true e = spare-iff weight n bytes .0 e
+    one none false e = absurd (none (clear .0 e))
 
-pub word-place : (weight : ℕ → ℕ) (n : ℕ) (bytes : List ℕ) (i : ℕ) → i < n
-    → coefficient i (maskOf weight n bytes) ≡ getD bytes (i / 8) 0 / weight i % 2
-unfolding place
-word-place weight n bytes i h = mask-coefficient weight n bytes i h
+pub word-spare-said : (n : ℕ) (word : List ℕ) → 1 ≤ n → length word ≡ (n + 7) / 8
+    → SpareBit wordWeight n word ↔ (getD word (length word - 1) 0 % 2 ^ (8 * length word - n) ≢ 0)
+unfolding bytesFor
+word-spare-said n word some long =
+    spare-said wordWeight n word (word-clear-iff n word long some)
+
+pub message-spare-said : (k : ℕ) (message : List ℕ) → 1 ≤ k → length message ≡ (k + 7) / 8 → Bytes message
+    → SpareBit messageWeight k message ↔ (getD message (length message - 1) 0 / 2 ^ (8 - (8 * length message - k)) ≢ 0)
+unfolding bytesFor
+message-spare-said k message some long bytes =
+    spare-said messageWeight k message (message-clear-iff k message long some (bytes (length message - 1)))
 
 -- a mask whose leading coefficient is that of x^u has degree u
 degree-has-top : {g u : ℕ} → g / 2 ^ u ≡ 1 → HasDegree g u

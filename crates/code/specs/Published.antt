@@ -50,8 +50,7 @@ pub record SheetRead (sheet : List ℕ) (x : Stated) : Type 0 where
   pub C : length (x .certificates) ≡ byteAt sheet 6
   pub certificate : (i : ℕ) → i < byteAt sheet 6 → CertificateRead sheet (10 + byteAt sheet 3 + 8 * i) (certificateAt x i)
 
--- "place i has weight 2^(i mod 8) in byte i div 8, for words and messages. A word has n/8 bytes and a message k/8, each rounded up.
--- Spare bits of the last byte are 0."
+-- "A word has n/8 bytes and a message k/8, each rounded up. Spare bits of the last byte are 0."
 pub record Places (weight : ℕ → ℕ) (n : ℕ) (bytes : List ℕ) : Type 0 where
   pub long : length bytes ≡ (n + 7) / 8
   pub clear : (i : ℕ) → n ≤ i → i < (n + 7) / 8 * 8 → place weight bytes i ≡ 0

@@ -9,7 +9,7 @@
 --   mask-of-bytes, bytes-of-mask   masks below 2^n, and bytes with no spare bit, are the same thing
 --   places-ext             lists of bytes with the same places are equal
 --   bytes-same, bytes-unique       bytes whose places are those of a mask, or those and 0 from n on, are its bytes
---   spare-none, spare-clear, spare-one      no spare bit: all places from n on are 0
+--   spare-none, spare-clear      no spare bit: all places from n on are 0
 --   places-length, places-at, places-hold   all places of a word's bytes, and the mask that they are
 use mathlib.Core.Path.{_≡_, refl, sym, ap, ap₂, _∙_, subst}
 use mathlib.Core.Logic.{_≢_, _⊎_, inl, inr}
@@ -24,11 +24,11 @@ use lib.Bits.{bitOr, bitAnd, and-mask}
 use lib.ListN.{length, getD, set, length-set, length-map, List·getD-eq-default}
 use lib.Pow.{shl-exact}
 use lib.Seq.{getD-set-same, getD-set-other, ext-getD}
-use borrow.Author.Tests.{eqb-false, eq-eqb, ne-eqb}
+use borrow.Author.Tests.{eqb-false, ne-eqb}
 use Rattle.algebra.proofs.Poly.{le-or-lt}
 use Rattle.field.specs.Search.{upTo, total}
 use Rattle.field.specs.Mask.{coefficient}
-use Rattle.field.proofs.Search.{some-none, some-false, some-of, length-upTo, total-ext}
+use Rattle.field.proofs.Search.{some-none, some-false, length-upTo, total-ext}
 use Rattle.field.proofs.Xor.{digit-lt}
 use Rattle.cyclic.proofs.Places.{coefficient-above, same-places}
 use Rattle.document.specs.Layout.{wordWeight, messageWeight, bytesFor, place, maskOf, byteOf, bytesOf, spare}
@@ -121,12 +121,6 @@ module _ (w : ℕ → ℕ) (n : ℕ) (l : List ℕ) where
       (λ i k. ne-eqb (place w l (n + i)) 1
       (λ e. let z : place w l (n + i) ≡ 0 = h (n + i) (omega arith) (omega arith) in
       omega arith))
-
-  pub spare-one : (i : ℕ) → n ≤ i → i < bytesFor n * 8 → place w l i ≡ 1 → spare w n l ≡ true
-  unfolding spare
-  spare-one i a b h =
-      let e : n + (i - n) ≡ i = omega arith in
-      some-of ones (bytesFor n * 8 - n) (i - n) (omega arith) (eq-eqb (place w l (n + (i - n))) 1 (ap (place w l) e ∙ h))
 
 -- ---- the bytes of a mask
 pub bytes-length : (w : ℕ → ℕ) (n mask : ℕ) → length (bytesOf w n mask) ≡ bytesFor n

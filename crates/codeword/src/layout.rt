@@ -40,33 +40,22 @@ pub fn bytes_for(n: usize) -> usize
     (n + 7) >> 3
 }
 
-// Whether a place from n on is 1.
+// Whether a spare bit of a word is 1: its places are the high bits of the last byte, shifted out at the top.
 pub fn spare_word(n: usize, bytes: &[u8]) -> bool
     requires { ⌜ (length (now bytes) ≡ bytesFor n) × (1 ≤ n) × (n ≤ 65535) ⌝ }
     ensures { λ r. ⌜ r ≡ spare wordWeight n (now (bytes .entry)) ⌝ }
 {
-    let end = bytes.len() * 8;
-    let mut i = n;
-    while i < end {
-        if word_place(bytes, i) == 1 {
-            return true;
-        }
-        i = i + 1;
-    }
-    false
+    let last = bytes.len() - 1;
+    let spare = 8 * bytes.len() - n;
+    ((bytes[last] as usize) << (8 - spare)) & 255 != 0
 }
 
+// Whether a spare bit of a message is 1: its places are the low bits of the last byte, shifted out at the bottom.
 pub fn spare_message(n: usize, bytes: &[u8]) -> bool
     requires { ⌜ (length (now bytes) ≡ bytesFor n) × (1 ≤ n) × (n ≤ 65535) ⌝ }
     ensures { λ r. ⌜ r ≡ spare messageWeight n (now (bytes .entry)) ⌝ }
 {
-    let end = bytes.len() * 8;
-    let mut i = n;
-    while i < end {
-        if message_place(bytes, i) == 1 {
-            return true;
-        }
-        i = i + 1;
-    }
-    false
+    let last = bytes.len() - 1;
+    let spare = 8 * bytes.len() - n;
+    (bytes[last] as usize) >> (8 - spare) != 0
 }

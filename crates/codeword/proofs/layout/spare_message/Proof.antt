@@ -1,56 +1,47 @@
--- `codeword::layout::spare_message` meets its contract: no place from n to i is 1.
-use native.Mathlib.Omega.{arith}
+-- `codeword::layout::spare_message` meets its contract: what is left of the last byte when its places are shifted out.
 use Prim.Native.Nat.{_-_}
-use Rattle.document.specs.Layout.{messageWeight}
-use Rattle.codeword.proofs.PlaceLoops.{Passed, for-few, passed-start, passed-index, passed-one, passed-more, passed-end}
+use native.Mathlib.Omega.{arith}
+use lib.ListN.{length}
+use Rattle.codeword.proofs.Spare.{some-byte, spare-few, spare-le, message-tested}
 use Rattle.codeword.proofs.layout.spare_message.Statement.{statement}
 use Rattle.codeword.proofs.layout.spare_message.Tie as tie
 
-abbrev Inv-loop : tie.InvT-loop
-Inv-loop n bytes end i₀ i = Passed messageWeight n end i bytes
+sub-last : tie.Need-sub-last
+sub-last c = some-byte (c .args .n) (c .args .bytes .now) (c .pre .0) (c .pre .1)
 
-abbrev μ-loop : tie.MeasureT-loop
-μ-loop n bytes end i₀ i = end - i
+mul-spare : tie.Need-mul-spare
+mul-spare c = let p = c .pre in omega (arith, p .2, spare-le (c .args .n) (c .args .bytes .now) (p .0) (p .1))
 
-mul-end : tie.Need-mul-end Inv-loop μ-loop
-mul-end c = omega (arith, c .before .pre .0, for-few (c .before .pre .2))
+sub-spare : tie.Need-sub-spare
+sub-spare c = spare-few (c .args .n) (c .args .bytes .now) (c .pre .0) (c .pre .1)
 
-loop-holds : tie.Need-loop-holds Inv-loop μ-loop
-loop-holds c = passed-start (c .before .pre .0) (c .before .pre .2)
+shared-slice-read-result : tie.Need-shared-slice-read-result
+shared-slice-read-result c = let p = c .before .pre in omega (arith, some-byte (c .before .args .n) (c .before .args .bytes .now) (p .0) (p .1))
 
-message-place-requires : tie.Need-message-place-requires Inv-loop μ-loop
-message-place-requires c κs = passed-index (c .before .loop .inv) (c .loop-test .taken)
+cast-result : tie.Need-cast-result
+cast-result c = omega (arith, c .shared-slice-known .given (length (c .before .args .bytes .now) - 1))
 
-returns : tie.Need-returns Inv-loop μ-loop
+sub-result : tie.Need-sub-result
+sub-result c = let p = c .before .pre in omega (arith, spare-le (c .before .args .n) (c .before .args .bytes .now) (p .0) (p .1))
+
+shr-result : tie.Need-shr-result
+shr-result c = let p = c .before .pre in omega (arith, spare-le (c .before .args .n) (c .before .args .bytes .now) (p .0) (p .1))
+
+returns : tie.Need-returns
 returns c =
-    let t = c .before .before in
-    passed-one (t .before .loop .inv) (t .loop-test .taken) (c .before .message-place .ensures) (c .if1 .taken)
-
-add-i : tie.Need-add-i Inv-loop μ-loop
-add-i c = omega (arith, c .before .before .before .loop .inv .few)
-
-loop-less : tie.Need-loop-less Inv-loop μ-loop
-loop-less c = omega arith
-
-loop-again : tie.Need-loop-again Inv-loop μ-loop
-loop-again c =
-    let t = c .before .before in
-    passed-more (t .before .loop .inv) (t .loop-test .taken) (c .before .message-place .ensures) (c .if1 .left)
-
-returns-2 : tie.Need-returns-2 Inv-loop μ-loop
-returns-2 c = passed-end (c .before .loop .inv) (c .loop-test .left)
+    let p = c .before .pre in
+    message-tested (c .before .args .n) (c .before .args .bytes .now) (p .0) (p .1)
+    (omega (arith, c .shared-slice-known .given (length (c .before .args .bytes .now) - 1)))
 
 pub spare-message-spec : {M : Type 1} → statement M
 spare-message-spec =
     tie.close
     (tie.spec
-    Inv-loop
-    μ-loop
-    mul-end
-    loop-holds
-    message-place-requires
-    returns
-    add-i
-    loop-less
-    loop-again
-    returns-2)
+    sub-last
+    mul-spare
+    sub-spare
+    shared-slice-read-result
+    cast-result
+    sub-result
+    shr-result
+    returns)

@@ -95,7 +95,7 @@ extern "C" {
 #define DUNEFORK_PERIOD (-9)          /* the period of a certificate's f is not coprime to n */
 #define DUNEFORK_TERM (-10)           /* a certificate has a term j below L that is 1 while b + j z modulo n is outside the defining set */
 #define DUNEFORK_BUFFER_LENGTH (-11)  /* the input or `out` has not its exact length */
-#define DUNEFORK_SPARE_BIT (-12)      /* a spare bit of the input is 1: one of a word's low bits, or of a message's high bits */
+#define DUNEFORK_SPARE_BIT (-12)      /* a spare bit of the input is 1: a low one in a word's last byte, a high one in a message's */
 #define DUNEFORK_NONE_NEAR (-13)      /* decoding: no codeword within t places of the word */
 #define DUNEFORK_NO_CODEWORD (-14)    /* reading out: the word is no codeword */
 

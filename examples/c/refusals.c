@@ -47,7 +47,7 @@ static void changed(const char *what, size_t place, uint8_t value) {
 }
 
 int main(void) {
-    /* A word's place 0 is the highest bit of its byte, and the lowest is spare, as n is 7; a message's spare bits are the high ones. */
+    /* n = 7: a word's place 0 is the highest bit of its byte, and the lowest is spare. k = 4: a message's four high bits are spare. */
     const uint8_t zero[1] = {0}, place_0[1] = {0x80}, places_0_1[1] = {0xc0}, spare[1] = {0x01}, spare_in_message[1] = {0x10};
     uint8_t out[1] = {0xee};
 

@@ -22,11 +22,15 @@
 //! # Ok::<(), dunefork::Error>(())
 //! ```
 //!
-//! Words and messages lie in their bytes in opposite ways. Place i of a *word* has weight 2^(7 - i mod 8) in byte i div 8: the
-//! highest bit of each byte is its first place, and the spare bits are the low bits of the last byte. Place i of a *message* has
-//! weight 2^(i mod 8) in byte i div 8: the lowest bit of each byte is its first place, and the spare bits are the high bits of the
-//! last byte. Spare bits must be 0 in what is handed over, and are 0 in what comes back. n is byte 2 of the sheet; [`card`] tells n, k
-//! and t of a sheet, and docs/SHEETS.md how to write one.
+//! Words and messages lie in their bytes in opposite ways:
+//!
+//! - Place i of a word has weight 2^(7 - i mod 8) in byte i div 8: the highest bit of each byte is its first place, and the spare
+//!   bits are the low bits of the last byte.
+//! - Place i of a message has weight 2^(i mod 8) in byte i div 8: the lowest bit of each byte is its first place, and the spare bits
+//!   are the high bits of the last byte.
+//!
+//! Spare bits must be 0 in what is handed over, and are 0 in what comes back. n is byte 2 of the sheet; [`card`] tells n, k and t of a
+//! sheet, and docs/SHEETS.md how to write one.
 //!
 //! Every call judges the sheet anew. Nothing is kept between calls: no heap, no global state, no lock. A call that fails leaves
 //! the output buffer as it was, every byte of it. docs/STACK.md tells how much stack a call takes.
@@ -88,7 +92,7 @@ pub enum Error {
     Term = 10,
     /// The input or the output buffer has not its exact length.
     BufferLength = 11,
-    /// A spare bit of the input's last byte is 1: one of a word's low bits, or of a message's high bits.
+    /// A spare bit of the input is 1: a low one in a word's last byte, a high one in a message's.
     SpareBit = 12,
     /// Decoding: no codeword lies within t places of the word.
     NoneNear = 13,

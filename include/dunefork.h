@@ -28,9 +28,14 @@
  *     A return of 0 or more says that it is done. A negative one is a refusal, minus the number that document 01 gives it, and
  * then `out` is as it was, every byte of it.
  *
- * Words and messages. A word of n places takes DUNEFORK_BYTES(n) bytes and a message of k places DUNEFORK_BYTES(k). Place i
- * has weight 2^(i mod 8) in byte i div 8. Places from n (or k) on, the spare bits of the last byte, must be 0 in what you
- * hand over, and are 0 in what you get. n is the sheet's byte 2; dunefork_card tells n, k and t.
+ * Words and messages. A word of n places takes DUNEFORK_BYTES(n) bytes and a message of k places DUNEFORK_BYTES(k). They lie in
+ * their bytes in opposite ways:
+ *     word      place i has weight 2^(7 - i mod 8) in byte i div 8, so it is word[i / 8] >> (7 - i % 8) & 1: the highest bit of each
+ *               byte is its first place, and the spare bits are the low bits of the last byte.
+ *     message   place i has weight 2^(i mod 8) in byte i div 8, so it is message[i / 8] >> i % 8 & 1: the lowest bit of each byte
+ *               is its first place, and the spare bits are the high bits of the last byte.
+ * With n = 7 and k = 4 the word 80 has place 0 alone, and 01 a spare bit; the message 01 has place 0 alone, and 10 a spare bit.
+ * Spare bits must be 0 in what you hand over, and are 0 in what you get. n is the sheet's byte 2; dunefork_card tells n, k and t.
  *
  * The sheet. 16-bit numbers have their low byte first. The folder sheets/ has some; docs/SHEETS.md says how to write one.
  *     bytes 0-1  length of the whole sheet, 10 + R + 8 C
@@ -76,7 +81,7 @@ extern "C" {
 #define DUNEFORK_CARD_STACK 916
 
 /* What a call returns where it refuses. The conditions are tried in this order; those of certificates (RANGE to TERM) for one
- * certificate after the other. examples/c/refusals.c draws each of them once, docs/SHEETS.md says what to do about it. */
+ * certificate after the other. examples/c/refusals.c draws each of them, docs/SHEETS.md says what to do about it. */
 #define DUNEFORK_SHEET_LENGTH (-1)    /* the sheet is under 10 or over 74 bytes, or states another length */
 #define DUNEFORK_CODE_LENGTH (-2)     /* n is even, below 3 or above 127 */
 #define DUNEFORK_FIELD_DEGREE (-3)    /* n divides no 2^s - 1 with s up to 12 */
@@ -90,7 +95,7 @@ extern "C" {
 #define DUNEFORK_PERIOD (-9)          /* the period of a certificate's f is not coprime to n */
 #define DUNEFORK_TERM (-10)           /* a certificate has a term j below L that is 1 while b + j z modulo n is outside the defining set */
 #define DUNEFORK_BUFFER_LENGTH (-11)  /* the input or `out` has not its exact length */
-#define DUNEFORK_SPARE_BIT (-12)      /* a spare bit of the input is 1 */
+#define DUNEFORK_SPARE_BIT (-12)      /* a spare bit of the input is 1: a low one in a word's last byte, a high one in a message's */
 #define DUNEFORK_NONE_NEAR (-13)      /* decoding: no codeword within t places of the word */
 #define DUNEFORK_NO_CODEWORD (-14)    /* reading out: the word is no codeword */
 

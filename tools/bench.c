@@ -67,19 +67,26 @@ static uint64_t drawn(void) {
     return (x * 2685821657736338717u) >> 33;
 }
 
-static void draw_bits(uint8_t *bytes, int places) {
-    for (int i = 0; i < places; i++)
+static void draw_word(uint8_t *word) {
+    for (int i = 0; i < c->n; i++)
         if (drawn() & 1)
-            bench_flip(bytes, (size_t)i);
+            bench_flip(word, (size_t)i);
+}
+
+/* Place i of a message has weight 2^(i mod 8) in byte i div 8. */
+static void draw_message(uint8_t *message) {
+    for (int i = 0; i < c->k; i++)
+        if (drawn() & 1)
+            message[i / 8] |= (uint8_t)(1 << i % 8);
 }
 
 /* The word is all zeros before. */
 static void draw(struct word *x, int weight) {
-    draw_bits(x->message, c->k);
+    draw_message(x->message);
     if (dunefork_encode(c->sheet, c->sheet_len, x->message, c->message_len, x->codeword, c->word_len) != 0)
         fail("ours", "the sheet or a message is refused", weight);
     if (weight < 0) {
-        draw_bits(x->received, c->n);
+        draw_word(x->received);
         return;
     }
     memcpy(x->received, x->codeword, sizeof x->received);

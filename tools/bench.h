@@ -27,13 +27,13 @@ extern const struct peer linux_peer, itpp_peer;
 }
 #endif
 
-/* Place i of a word. */
+/* Place i of a word has weight 2^(7 - i mod 8) in byte i div 8. */
 static inline int bench_place(const uint8_t *word, size_t i) {
-    return word[i / 8] >> i % 8 & 1;
+    return word[i / 8] >> (7 - i % 8) & 1;
 }
 
 static inline void bench_flip(uint8_t *word, size_t i) {
-    word[i / 8] ^= (uint8_t)(1 << i % 8);
+    word[i / 8] ^= (uint8_t)(1 << (7 - i % 8));
 }
 
 #endif

@@ -6,7 +6,8 @@
 #include <linux/bch.h>
 
 /* Eight bytes of data, then its nine bytes of checks, of which it uses 63 bits; the highest coefficient comes first, in the
- * highest bit of the first byte. Its words start at multiples of 4, which is where it is fast. */
+ * highest bit of the first byte. So its words lie in bytes as ours do, with the last place first. They start at multiples of 4,
+ * which is where it is fast. */
 #define DATA 8
 #define PLACES 127
 struct word {
@@ -23,18 +24,19 @@ static int open_code(void) {
     return control && control->ecc_bits == PLACES - 8 * DATA;
 }
 
-static size_t bit_of(size_t place) {
-    return (PLACES - 1 - place) ^ 7;
+static size_t place_there(size_t place) {
+    return PLACES - 1 - place;
 }
 
 static void take(size_t slot, const uint8_t *word) {
     memset(&received[slot], 0, sizeof received[slot]);
     for (size_t i = 0; i < PLACES; i++)
         if (bench_place(word, i))
-            bench_flip(received[slot].bytes, bit_of(i));
+            bench_flip(received[slot].bytes, place_there(i));
 }
 
-/* It tells where errors are; changing these bits is left to the caller, and so is part of decoding a word. */
+/* It tells where errors are, by numbers that have the lowest bit of a byte first; changing these bits is left to the caller, and so
+ * is part of decoding a word. */
 static void decode(size_t slot) {
     unsigned int places[10];
     uint8_t *out = written[slot].bytes;
@@ -56,7 +58,7 @@ static void encode(size_t slot) {
 static int32_t answer(size_t slot, uint8_t *out) {
     memset(out, 0, BENCH_BYTES);
     for (size_t i = 0; i < PLACES; i++)
-        if (bench_place(written[slot].bytes, bit_of(i)))
+        if (bench_place(written[slot].bytes, place_there(i)))
             bench_flip(out, i);
     return replies[slot];
 }

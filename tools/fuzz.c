@@ -3,7 +3,7 @@
  *
  *     fuzz seed calls [fault]
  *
- * A seed gives the same calls everywhere, and the checksum printed is that of all replies and buffers. With a fault, 1 to 8, a
+ * A seed gives the same calls everywhere, and the checksum printed is that of all replies and buffers. With a fault, 1 to 11, a
  * wrong library is played, and the run must end in a difference: that shows that the harness sees such a thing.
  *
  * Every buffer has its exact length. Three in four lie at the end or the start of a page between two pages that cannot be touched,
@@ -148,20 +148,47 @@ static void touched(int signal_number) {
     differ("a byte outside the lent buffers was touched");
 }
 
-static word_t word_of(const uint8_t *bytes, size_t length) {
-    word_t w = 0;
-    for (size_t i = 0; i < length; i++) w |= (word_t)bytes[i] << 8 * i;
-    return w;
+/* Encode takes a message and read gives one; all else that is handed over and comes back is a word. */
+static word_t input_of(int entry, const uint8_t *bytes) {
+    return entry == ENCODE ? message_of(bytes, code.k) : word_of(bytes, code.n);
 }
 
-static void put_word(word_t w, uint8_t *bytes, size_t length) {
-    for (size_t i = 0; i < length; i++) bytes[i] = (uint8_t)(w >> 8 * i);
+static int spare_in_input(int entry, const uint8_t *bytes) {
+    return entry == ENCODE ? spare_in_message(bytes, code.k) : spare_in_word(bytes, code.n);
+}
+
+static void put_input(int entry, word_t w, uint8_t *bytes) {
+    if (entry == ENCODE)
+        put_message(w, code.k, bytes);
+    else
+        put_word(w, code.n, bytes);
+}
+
+static void put_output(int entry, word_t w, uint8_t *bytes) {
+    if (entry == READ)
+        put_message(w, code.k, bytes);
+    else
+        put_word(w, code.n, bytes);
 }
 
 static double seconds(void) {
     struct timespec t;
     clock_gettime(CLOCK_MONOTONIC, &t);
     return (double)t.tv_sec + 1e-9 * (double)t.tv_nsec;
+}
+
+static void turn_bytes_round(uint8_t *bytes, size_t length) {
+    for (size_t i = 0; i < length; i++) {
+        uint8_t turned = 0;
+        for (int j = 0; j < 8; j++)
+            if (bytes[i] & message_weight(j)) turned |= word_weight(j);
+        bytes[i] = turned;
+    }
+}
+
+/* Whether a word of the right length has a 1 where the spare bits would be if it were a message. */
+static int message_spare_in_word(int32_t reply) {
+    return now.entry != ENCODE && !code.refusal && reply != -11 && spare_in_message(lent[INPUT].at, code.n);
 }
 
 /* What a wrong library would do, for runs that must fail. */
@@ -178,6 +205,9 @@ static int32_t meddled(int32_t reply) {
     case 6: if (lent[INPUT].length) lent[INPUT].at[0] ^= 1; break;                /* the input written to */
     case 7: if (reply == -13 && length) return memcpy(out, lent[INPUT].at, length), 0; break; /* the word as received */
     case 8: if (reply == -12) return -11; break;                                  /* another number */
+    case 9: if (reply >= 0 && now.entry != READ) turn_bytes_round(out, length); break;  /* a word laid out as a message */
+    case 10: if (reply >= 0 && now.entry == READ) turn_bytes_round(out, length); break; /* a message laid out as a word */
+    case 11: if (message_spare_in_word(reply)) return -12; break;                 /* a word's spare bits sought as a message's */
     }
     return reply;
 }
@@ -237,14 +267,15 @@ static void try(int entry, const uint8_t *input, size_t input_length, size_t out
     memcpy(after, before, output_length);
 
     int places_in = entry == ENCODE ? code.k : code.n, places_out = entry == READ ? code.k : code.n;
+    int right_lengths = input_length == DUNEFORK_BYTES(places_in) && output_length == DUNEFORK_BYTES(places_out);
     int32_t expected = 0;
     int known = 1;
-    word_t word = 0, result = 0;
+    word_t word = !code.refusal && right_lengths ? input_of(entry, input) : 0, result = 0;
     if (code.refusal) {
         expected = -code.refusal;
-    } else if (input_length != DUNEFORK_BYTES(places_in) || output_length != DUNEFORK_BYTES(places_out)) {
+    } else if (!right_lengths) {
         expected = -11;
-    } else if ((word = word_of(input, input_length)) >> places_in) {
+    } else if (spare_in_input(entry, input)) {
         expected = -12;
     } else if (entry == ENCODE) {
         result = encoded(&code, word);
@@ -257,7 +288,7 @@ static void try(int entry, const uint8_t *input, size_t input_length, size_t out
         known = right_decoding(word, made, weight, &result);
         expected = known ? ones(word ^ result) : -13;
     }
-    if (known >= 0 && expected >= 0) put_word(result, after, output_length);
+    if (known >= 0 && expected >= 0) put_output(entry, result, after);
 
     lend(SHEET, sheet, sheet_length);
     lend(INPUT, input, input_length);
@@ -267,8 +298,8 @@ static void try(int entry, const uint8_t *input, size_t input_length, size_t out
     if (known < 0 && reply != -13) {
         /* any codeword within t places is the right one: there is only one */
         memcpy(after, lent[OUTPUT].at, output_length);
-        result = word_of(after, output_length);
-        if (result >> code.n) differ("a spare bit in what was decoded");
+        result = word_of(after, code.n);
+        if (spare_in_word(after, code.n)) differ("a spare bit in what was decoded");
         expected = ones(result ^ word);
         if (expected > code.t || !is_codeword(&code, result)) differ("decoded to no codeword within t places");
         count_how[BY_PROPERTY_CHANGED]++;
@@ -499,9 +530,12 @@ static void try_places(int entry, word_t word, word_t made, int weight) {
     static uint8_t input[PAGE];
     int places = entry == ENCODE ? code.k : code.n;
     size_t length = DUNEFORK_BYTES(places), output_length = DUNEFORK_BYTES(entry == READ ? code.k : code.n), given = length;
-    put_word(word, input, length);
+    put_input(entry, word, input);
     int spoil = below(7) ? 0 : 1 + below(7);
-    if (spoil & 1 && places % 8) input[length - 1] |= (uint8_t)(1 << (places % 8 + below(8 - places % 8)));
+    if (spoil & 1 && places % 8) {
+        int spare = places + below(8 - places % 8);
+        input[length - 1] |= entry == ENCODE ? message_weight(spare) : word_weight(spare);
+    }
     if (spoil & 2) given = wrong_length(length);
     if (spoil & 4) output_length = wrong_length(output_length);
     for (size_t i = length; i < given; i++) input[i] = (uint8_t)(below(2) ? draw() : 0);

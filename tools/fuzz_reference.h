@@ -1,5 +1,5 @@
-/* Document 01 once more, for tools/fuzz.c: sheets judged, words encoded, read out and decoded, with none of the library's code
- * and by other ways where there are any. A code is known by the remainders of the powers of x; the factor of a coset is the
+/* Documents 01 and 02 once more, for tools/fuzz.c: sheets judged, words encoded, read out and decoded, with none of the library's
+ * code and by other ways where there are any. A code is known by the remainders of the powers of x; the factor of a coset is the
  * linear relation between the powers of its root; common factors and periods are searched for; and a received word is decoded
  * with no equation, by a search among all patterns of at most t errors or among all codewords. */
 #include <stdint.h>
@@ -16,6 +16,49 @@ static void insist(int holds, const char *what) {
         fprintf(stderr, "the reference is at odds with itself: %s\n", what);
         exit(3);
     }
+}
+
+/* ---- words in bytes. Document 02: "place i of a word has weight 2^(7 - i mod 8) in byte i div 8. A word's spare bits are then the
+ * low bits of its last byte." */
+static uint8_t word_weight(int place) { return (uint8_t)(1 << (7 - place % 8)); }
+
+static word_t word_of(const uint8_t *bytes, int n) {
+    word_t w = 0;
+    for (int i = 0; i < n; i++)
+        if (bytes[i / 8] & word_weight(i)) w |= (word_t)1 << i;
+    return w;
+}
+
+static void put_word(word_t w, int n, uint8_t *bytes) {
+    memset(bytes, 0, (size_t)(n + 7) / 8);
+    for (int i = 0; i < n; i++)
+        if (w >> i & 1) bytes[i / 8] |= word_weight(i);
+}
+
+static int spare_in_word(const uint8_t *bytes, int n) {
+    int low_bits = (8 - n % 8) % 8;
+    return (bytes[(n - 1) / 8] & ((1 << low_bits) - 1)) != 0;
+}
+
+/* ---- messages in bytes. Document 01: "place i has weight 2^(i mod 8) in byte i div 8". A message's spare bits are then the high
+ * bits of its last byte. */
+static uint8_t message_weight(int place) { return (uint8_t)(1 << place % 8); }
+
+static word_t message_of(const uint8_t *bytes, int k) {
+    word_t m = 0;
+    for (int i = 0; i < k; i++)
+        if (bytes[i / 8] & message_weight(i)) m |= (word_t)1 << i;
+    return m;
+}
+
+static void put_message(word_t m, int k, uint8_t *bytes) {
+    memset(bytes, 0, (size_t)(k + 7) / 8);
+    for (int i = 0; i < k; i++)
+        if (m >> i & 1) bytes[i / 8] |= message_weight(i);
+}
+
+static int spare_in_message(const uint8_t *bytes, int k) {
+    return k % 8 != 0 && bytes[k / 8] >> k % 8 != 0;
 }
 
 /* ---- masks */

@@ -1,4 +1,4 @@
-/* Each refusal drawn once, by sheet H of document 01 with something changed, and its meaning in words. examples/c/run builds and
+/* Each refusal drawn, by sheet H of document 01 with something changed, and its meaning in words. examples/c/run builds and
  * runs it. */
 #include "dunefork.h"
 #include <stdio.h>
@@ -47,7 +47,8 @@ static void changed(const char *what, size_t place, uint8_t value) {
 }
 
 int main(void) {
-    const uint8_t zero[1] = {0}, one[1] = {1}, three[1] = {3}, spare[1] = {0x80};
+    /* n = 7: a word's place 0 is the highest bit of its byte, and the lowest is spare. k = 4: a message's four high bits are spare. */
+    const uint8_t zero[1] = {0}, place_0[1] = {0x80}, places_0_1[1] = {0xc0}, spare[1] = {0x01}, spare_in_message[1] = {0x10};
     uint8_t out[1] = {0xee};
 
     changed("length 20 for 19 bytes", 0, 20);
@@ -68,9 +69,10 @@ int main(void) {
     tell("n = 21, f = 7", dunefork_decode(period, sizeof period, zero, 1, out, 1), out);
     changed("L = 3", 17, 3);
     tell("empty word", dunefork_decode(sheet_h, sizeof sheet_h, NULL, 0, out, 1), out);
-    tell("word 80", dunefork_decode(sheet_h, sizeof sheet_h, spare, 1, out, 1), out);
-    tell("sheet E, word 03", dunefork_decode(sheet_e, sizeof sheet_e, three, 1, out, 1), out);
-    tell("read word 01", dunefork_read(sheet_h, sizeof sheet_h, one, 1, out, 1), out);
+    tell("word 01", dunefork_decode(sheet_h, sizeof sheet_h, spare, 1, out, 1), out);
+    tell("message 10", dunefork_encode(sheet_h, sizeof sheet_h, spare_in_message, 1, out, 1), out);
+    tell("sheet E, word c0", dunefork_decode(sheet_e, sizeof sheet_e, places_0_1, 1, out, 1), out);
+    tell("read word 80", dunefork_read(sheet_h, sizeof sheet_h, place_0, 1, out, 1), out);
 
     /* Pointers may be null where the length is 0. */
     tell("no sheet", dunefork_encode(NULL, 0, zero, 1, out, 1), out);

@@ -7,10 +7,10 @@ pub fn add_errors(places: &[u8; 127], word: &mut [u8; 16]) {
     }
 }
 
-// Places are below 127, so the remainder by 16 changes nothing.
+// A place has weight 2^(7 - place mod 8) in byte place div 8. Places are below 127, so the remainder by 16 changes nothing.
 fn flip(place: u8, word: &mut [u8; 16]) {
     let at = wide(place) / 8 % 16;
-    word[at] = word[at] ^ (1 << (place % 8));
+    word[at] = word[at] ^ (128 >> (place % 8));
 }
 
 fn wide(x: u8) -> usize {

@@ -8,13 +8,13 @@
 //!
 //! let mut word = [0; dunefork::bytes(15)];
 //! dunefork::encode(&SHEET, &[0x55], &mut word)?;
-//! assert_eq!(word, [0xe5, 0x55]);
+//! assert_eq!(word, [0b1010_0111, 0b1010_1010]); // places 0 to 14 from left to right, then a spare bit
 //!
-//! word[0] ^= 0x01; // the wire spoils two places
-//! word[1] ^= 0x10;
+//! word[0] ^= 0x80; // the wire spoils place 0
+//! word[1] ^= 0x08; // and place 12
 //! let mut right = [0; dunefork::bytes(15)];
 //! assert_eq!(dunefork::decode(&SHEET, &word, &mut right)?, 2);
-//! assert_eq!(right, [0xe5, 0x55]);
+//! assert_eq!(right, [0b1010_0111, 0b1010_1010]);
 //!
 //! let mut message = [0; dunefork::bytes(7)];
 //! dunefork::read(&SHEET, &right, &mut message)?;
@@ -22,9 +22,15 @@
 //! # Ok::<(), dunefork::Error>(())
 //! ```
 //!
-//! Place i of a word or message has weight 2^(i mod 8) in byte i div 8. The spare bits of the last byte must be 0 in what is
-//! handed over, and are 0 in what comes back. n is byte 2 of the sheet; [`card`] tells n, k and t of a sheet, and docs/SHEETS.md how to
-//! write one.
+//! Words and messages lie in their bytes in opposite ways:
+//!
+//! - Place i of a word has weight 2^(7 - i mod 8) in byte i div 8: the highest bit of each byte is its first place, and the spare
+//!   bits are the low bits of the last byte.
+//! - Place i of a message has weight 2^(i mod 8) in byte i div 8: the lowest bit of each byte is its first place, and the spare bits
+//!   are the high bits of the last byte.
+//!
+//! Spare bits must be 0 in what is handed over, and are 0 in what comes back. n is byte 2 of the sheet; [`card`] tells n, k and t of a
+//! sheet, and docs/SHEETS.md how to write one.
 //!
 //! Every call judges the sheet anew. Nothing is kept between calls: no heap, no global state, no lock. A call that fails leaves
 //! the output buffer as it was, every byte of it. docs/STACK.md tells how much stack a call takes.
@@ -86,7 +92,7 @@ pub enum Error {
     Term = 10,
     /// The input or the output buffer has not its exact length.
     BufferLength = 11,
-    /// A spare bit of the input is 1.
+    /// A spare bit of the input is 1: a low one in a word's last byte, a high one in a message's.
     SpareBit = 12,
     /// Decoding: no codeword lies within t places of the word.
     NoneNear = 13,
@@ -202,9 +208,9 @@ mod c {
 /// const SHEET: [u8; 19] = [19, 0, 7, 1, 10, 0, 1, 0, 11, 0, 1, 1, 1, 3, 0, 1, 0, 2, 0];
 ///
 /// let mut word = [0];
-/// dunefork::encode(&SHEET, &[2], &mut word)?;
-/// assert_eq!(word, [22]);
-/// assert_eq!(dunefork::encode(&SHEET, &[16], &mut word), Err(dunefork::Error::SpareBit));
+/// dunefork::encode(&SHEET, &[0b0010], &mut word)?; // place 1 alone
+/// assert_eq!(word, [0b0110_1000]); // places 1, 2 and 4; the lowest bit is spare
+/// assert_eq!(dunefork::encode(&SHEET, &[0b1_0000], &mut word), Err(dunefork::Error::SpareBit));
 /// # Ok::<(), dunefork::Error>(())
 /// ```
 ///
@@ -223,9 +229,10 @@ pub fn encode(sheet: &[u8], message: &[u8], out: &mut [u8]) -> Result<(), Error>
 /// const SHEET: [u8; 19] = [19, 0, 7, 1, 10, 0, 1, 0, 11, 0, 1, 1, 1, 3, 0, 1, 0, 2, 0];
 ///
 /// let mut message = [0];
-/// dunefork::read(&SHEET, &[22], &mut message)?;
-/// assert_eq!(message, [2]);
-/// assert_eq!(dunefork::read(&SHEET, &[23], &mut message), Err(dunefork::Error::NoCodeword));
+/// dunefork::read(&SHEET, &[0b0110_1000], &mut message)?;
+/// assert_eq!(message, [0b0010]);
+/// assert_eq!(dunefork::read(&SHEET, &[0b1000_0000], &mut message), Err(dunefork::Error::NoCodeword));
+/// assert_eq!(dunefork::read(&SHEET, &[0b0000_0001], &mut message), Err(dunefork::Error::SpareBit));
 /// # Ok::<(), dunefork::Error>(())
 /// ```
 ///
@@ -248,8 +255,8 @@ pub fn read(sheet: &[u8], word: &[u8], out: &mut [u8]) -> Result<(), Error> {
 /// const SHEET: [u8; 19] = [19, 0, 7, 1, 10, 0, 1, 0, 11, 0, 1, 1, 1, 3, 0, 1, 0, 2, 0];
 ///
 /// let mut word = [0];
-/// assert_eq!(dunefork::decode(&SHEET, &[10], &mut word)?, 1);
-/// assert_eq!(word, [11]);
+/// assert_eq!(dunefork::decode(&SHEET, &[0b0101_0000], &mut word)?, 1);
+/// assert_eq!(word, [0b1101_0000]);
 /// # Ok::<(), dunefork::Error>(())
 /// ```
 ///

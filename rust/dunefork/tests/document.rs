@@ -1,4 +1,4 @@
-//! Document 01's cases and refusals, as far as they go through these three functions.
+//! Document 01's cases and refusals, as far as they go through these three functions, with words laid out as document 02 says.
 use dunefork::{bytes, decode, encode, read, Error};
 
 /// A sheet with one certificate b, z, f, h, L.
@@ -32,21 +32,36 @@ fn changed(place: usize, value: u8) -> Vec<u8> {
     sheet
 }
 
-/// What a call answers and leaves, as masks, with AA in the buffer before it.
+/// The bytes of a message: place i has weight 2^(i mod 8) in byte i div 8.
+fn message_bytes(mask: u64, k: usize) -> Vec<u8> {
+    mask.to_le_bytes()[..bytes(k)].to_vec()
+}
+
+/// The bytes of a word: place i has weight 2^(7 - i mod 8) in byte i div 8.
+fn word_bytes(mask: u64, n: usize) -> Vec<u8> {
+    let mut word = vec![0; bytes(n)];
+    for i in (0..n).filter(|i| mask >> i & 1 == 1) {
+        word[i / 8] |= 1 << (7 - i % 8);
+    }
+    word
+}
+
+/// The mask of a word, with its spare bits as places from n on.
+fn word_mask(word: &[u8]) -> u64 {
+    (0..8 * word.len()).map(|i| u64::from(word[i / 8] >> (7 - i % 8) & 1) << i).sum()
+}
+
+/// What a call answers and the word that it leaves, as a mask, with AA in the buffer before it.
 fn encoded(sheet: &[u8], k: usize, n: usize, message: u64) -> (Result<(), Error>, u64) {
     let mut out = vec![0xaa; bytes(n)];
-    let answer = encode(sheet, &message.to_le_bytes()[..bytes(k)], &mut out);
-    (answer, mask(&out))
+    let answer = encode(sheet, &message_bytes(message, k), &mut out);
+    (answer, word_mask(&out))
 }
 
 fn decoded(sheet: &[u8], n: usize, word: u64) -> (Result<usize, Error>, u64) {
     let mut out = vec![0xaa; bytes(n)];
-    let answer = decode(sheet, &word.to_le_bytes()[..bytes(n)], &mut out);
-    (answer, mask(&out))
-}
-
-fn mask(bytes: &[u8]) -> u64 {
-    bytes.iter().rev().fold(0, |sum, &byte| sum << 8 | u64::from(byte))
+    let answer = decode(sheet, &word_bytes(word, n), &mut out);
+    (answer, word_mask(&out))
 }
 
 /// Every entry refuses the sheet with this error and leaves the buffer as it was.
@@ -76,7 +91,7 @@ fn cases() {
     assert_eq!(encoded(&sheet_e(3), 3, 7, 1), (Ok(()), 29));
     refused(&sheet_e(4), Error::Term);
     // 8 and 9
-    assert_eq!(decoded(&sheet_e(3), 7, 3), (Err(Error::NoneNear), 0xaa));
+    assert_eq!(decoded(&sheet_e(3), 7, 3), (Err(Error::NoneNear), word_mask(&[0xaa])));
     assert_eq!(decoded(&sheet_e(3), 7, 28), (Ok(1), 29));
     // 10: k = 9 makes messages of two bytes; 11
     assert_eq!(encoded(&sheet_s(9), 9, 17, 0), (Ok(()), 0));
@@ -127,13 +142,45 @@ fn refusals_of_words() {
     assert_eq!(decode(&h, &[], &mut out), Err(Error::BufferLength));
     assert_eq!(read(&h, &[], &mut out), Err(Error::BufferLength));
     assert_eq!(encode(&h, &[], &mut out), Err(Error::BufferLength));
-    assert_eq!(decode(&h, &[0x80], &mut []), Err(Error::BufferLength));
-    assert_eq!(decode(&h, &[0x80], &mut out), Err(Error::SpareBit));
-    assert_eq!(read(&h, &[0x80], &mut out), Err(Error::SpareBit));
+    assert_eq!(decode(&h, &[0x01], &mut []), Err(Error::BufferLength));
+    assert_eq!(decode(&h, &[0x01], &mut out), Err(Error::SpareBit));
+    assert_eq!(read(&h, &[0x01], &mut out), Err(Error::SpareBit));
     assert_eq!(encode(&h, &[0x10], &mut out), Err(Error::SpareBit));
-    assert_eq!(decode(&sheet_e(3), &[3], &mut out), Err(Error::NoneNear));
-    assert_eq!(read(&h, &[1], &mut out), Err(Error::NoCodeword));
+    assert_eq!(decode(&sheet_e(3), &[0xc0], &mut out), Err(Error::NoneNear));
+    assert_eq!(read(&h, &[0x80], &mut out), Err(Error::NoCodeword));
     assert_eq!(out, [0xaa]);
+}
+
+#[test]
+fn words_highest_bit_first_messages_lowest() {
+    // sheet B: message 1 gives the generator, 1 + x^4 + x^6 + x^7 + x^8
+    let mut word = [0xaa; 2];
+    assert_eq!(encode(&sheet_b(4), &[0b000_0001], &mut word), Ok(()));
+    assert_eq!(word, [0b1000_1011, 0b1000_0000]);
+    // sheet S: message place 8 of 9 is the lowest bit of byte 1; it stands in place 16 of 17, the highest bit of byte 2
+    let mut long = [0xaa; 3];
+    assert_eq!(encode(&sheet_s(9), &[0, 1], &mut long), Ok(()));
+    assert_eq!(long[2], 0x80);
+    let mut message = [0xaa; 2];
+    assert_eq!(read(&sheet_s(9), &long, &mut message), Ok(()));
+    assert_eq!(message, [0, 1]);
+}
+
+#[test]
+fn spare_bits() {
+    // sheet S: the seven low bits of a word's byte 2, the seven high bits of a message's byte 1
+    let s = sheet_s(9);
+    let mut long = [0xaa; 3];
+    let mut message = [0xaa; 2];
+    for i in 0..7 {
+        assert_eq!(decode(&s, &[0, 0, 1 << i], &mut long), Err(Error::SpareBit));
+        assert_eq!(read(&s, &[0, 0, 1 << i], &mut message), Err(Error::SpareBit));
+        assert_eq!(encode(&s, &[0, 2 << i], &mut long), Err(Error::SpareBit));
+    }
+    assert_eq!((long, message), ([0xaa; 3], [0xaa; 2]));
+    assert_eq!(decode(&s, &[0, 0, 0x80], &mut long), Ok(1));
+    assert_eq!(long, [0; 3]);
+    assert_eq!(read(&s, &[0, 0, 0x80], &mut message), Err(Error::NoCodeword));
 }
 
 #[test]
@@ -143,7 +190,7 @@ fn read_back() {
         let mut word = [0xaa];
         let mut back = [0xaa];
         encode(&h, &[message], &mut word).unwrap();
-        assert_eq!(word[0] >> 3, message);
+        assert_eq!(word_mask(&word) >> 3, u64::from(message));
         read(&h, &word, &mut back).unwrap();
         assert_eq!(back, [message]);
     }

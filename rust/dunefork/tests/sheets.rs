@@ -49,7 +49,7 @@ fn round_trips() {
         for round in 0..20 {
             let mut message = vec![0; bytes(sheet.k)];
             for place in 0..sheet.k {
-                message[place / 8] |= (draw.below(2) as u8) << (place % 8);
+                message[place / 8] |= (draw.below(2) as u8) << (place % 8); // lowest bit first
             }
             let mut word = vec![0; bytes(sheet.n)];
             encode(&sheet.bytes, &message, &mut word).unwrap_or_else(|error| panic!("{}: {error}", sheet.name));
@@ -58,7 +58,7 @@ fn round_trips() {
             let mut places: Vec<usize> = (0..sheet.n).collect();
             for _ in 0..errors {
                 let place = places.swap_remove(draw.below(places.len()));
-                received[place / 8] ^= 1 << (place % 8);
+                received[place / 8] ^= 1 << (7 - place % 8); // highest bit first
             }
             let mut right = vec![0; bytes(sheet.n)];
             assert_eq!(decode(&sheet.bytes, &received, &mut right), Ok(errors), "{}", sheet.name);
@@ -73,17 +73,22 @@ fn round_trips() {
     }
 }
 
+/// A word's bytes: place i, which has weight 2^i in the mask, has weight 2^(7 - i mod 8) in byte i div 8.
+fn word_of(mask: u32) -> [u8; 4] {
+    mask.reverse_bits().to_be_bytes()
+}
+
 #[test]
 fn words_off_the_air() {
     // POCSAG's synchronization and idle words, highest place first, without their last bit, which is parity
     let sheet = parsed("bch-31-21".into(), include_str!("../../../sheets/bch-31-21.hex"));
     for sent in [0x7cd2_15d8_u32, 0x7a89_c197] {
-        let word = (sent >> 1).to_le_bytes();
+        let word = word_of(sent >> 1);
         let mut message = [0; 3];
         assert_eq!(read(&sheet.bytes, &word, &mut message), Ok(()));
         assert_eq!(message, (sent >> 11).to_le_bytes()[..3]);
         let mut right = [0; 4];
-        assert_eq!(decode(&sheet.bytes, &(sent >> 1 ^ 0x4000_0100).to_le_bytes(), &mut right), Ok(2));
+        assert_eq!(decode(&sheet.bytes, &word_of(sent >> 1 ^ 0x4000_0100), &mut right), Ok(2));
         assert_eq!(right, word);
     }
 }

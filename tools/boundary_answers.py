@@ -265,23 +265,23 @@ def word_calls(made):
     a, b = reading.in_bytes(k), reading.in_bytes(n)
     messages = sorted({0, 1, 2 ** (k - 1), 2 ** k - 1, 0x5a3c96f1 * 0x100000001000000010000001 % 2 ** k})
     for message in messages:
-        word, given = reading.codeword(bytes(made), message), reading.as_bytes(message, k)
+        word, given = reading.codeword(bytes(made), message), reading.message_bytes(message, k)
         yield 1, given, b
-        yield 2, reading.as_bytes(word, n), a
+        yield 2, reading.word_bytes(word, n), a
         for wrong in sorted({0, 1, 1 << n - 1, 1 << n - k, (1 << n - k) >> 1, 3 << n - 2, (1 << t) - 1, (1 << t) - 1 << n - t,
                              (2 << t) - 1, (2 << t) - 1 << n - t - 1}):
-            yield 2, reading.as_bytes(word ^ wrong, n), a
-            yield 3, reading.as_bytes(word ^ wrong, n), b
-    near, far = reading.as_bytes(word, n), reading.as_bytes(word ^ ((2 << t) - 1), n)
+            yield 2, reading.word_bytes(word ^ wrong, n), a
+            yield 3, reading.word_bytes(word ^ wrong, n), b
+    near, far = reading.word_bytes(word, n), reading.word_bytes(word ^ ((2 << t) - 1), n)
     # 12, at each spare place, over a codeword and over a word that draws 13 or 14; and 11 before it
     for place in range(k, 8 * a):
-        yield 1, reading.as_bytes(message | 1 << place, k), b
-        yield 1, reading.as_bytes(message | 1 << place, k), b + 1
+        yield 1, reading.message_bytes(message | 1 << place, k), b
+        yield 1, reading.message_bytes(message | 1 << place, k), b + 1
     for place in range(n, 8 * b):
         for wrong in sorted({0, 1, (2 << t) - 1}):
             for kind, space in ((2, a), (3, b)):
-                yield kind, reading.as_bytes(word ^ wrong | 1 << place, n), space
-                yield kind, reading.as_bytes(word ^ wrong | 1 << place, n), space - 1
+                yield kind, reading.word_bytes(word ^ wrong | 1 << place, n), space
+                yield kind, reading.word_bytes(word ^ wrong | 1 << place, n), space - 1
     # 11: input and output, short and long, alone and together
     for kind, right, space in ((1, given, b), (2, near, a), (2, far, a), (3, near, b), (3, far, b)):
         for handed in sorted({b'', right[:-1], right + b'\0', right + b'\x01'}):

@@ -9,8 +9,8 @@ from functools import lru_cache
 from itertools import combinations
 from math import comb, gcd
 
-from entry_answers import (SHEETS, answer, bits, certificate, common_factor, coset, encoded, generator, in_bytes, known, parts,
-                           period, remainder, series, sheet)
+from entry_answers import (SHEETS, answer, bits, certificate, common_factor, coset, encoded, generator, known, parts, period, remainder,
+                           series, sheet, word_bytes)
 
 LENGTHS = [n for n in range(3, 128, 2) if len(coset(1, n)) <= 12]
 MOST_PATTERNS, MOST_MESSAGE_BITS = 50000, 12
@@ -265,7 +265,7 @@ def whole_sheets(draw):
 def in_answer(codeword, word, n):
     if codeword is None:
         return 'decode refused 13 ' + 'aa' * ((n + 7) // 8)
-    return 'decode returned %d %s' % ((codeword ^ word).bit_count(), in_bytes(codeword, n).hex())
+    return 'decode returned %d %s' % ((codeword ^ word).bit_count(), word_bytes(codeword, n).hex())
 
 
 def weights(code):
@@ -281,7 +281,7 @@ def word_calls(draw, of_sheet):
         codeword, pattern = encoded(draw.bits(code.k), code.g), draw.pattern(n, weight)
         found = code.decoded(codeword, pattern)
         if found != 'open':
-            yield 3, in_bytes(codeword ^ pattern, n), b, in_answer(found, codeword ^ pattern, n)
+            yield 3, word_bytes(codeword ^ pattern, n), b, in_answer(found, codeword ^ pattern, n)
 
 
 def length_calls(of_sheet):
@@ -295,23 +295,23 @@ def length_calls(of_sheet):
         yield 3, bytes(b - 1) + b'\xff', space, 'decode refused 11 ' + 'aa' * space
     for place in range(n, 8 * b):
         for rest in (0, 1, 2 ** n - 1, 3 << n // 2):
-            yield 3, in_bytes(rest | 1 << place, n), b, 'decode refused 12 ' + 'aa' * b
+            yield 3, word_bytes(rest | 1 << place, n), b, 'decode refused 12 ' + 'aa' * b
 
 
 def refused_calls(number):
     # a refused sheet, with words and buffers that have the right length, and others
-    for given, space in ((b'\x01', 1), (bytes(16), 16), (b'\xff\xff', 2), (b'', 0)):
+    for given, space in ((b'\x80', 1), (bytes(16), 16), (b'\xff\xff', 2), (b'', 0)):
         yield 3, given, space, 'decode refused %s ' % number + 'aa' * space
 
 
 def whole_call(of_sheet):
-    # the buffer has 3 bytes, of which a word's are lent
+    # the buffer has 3 bytes, of which a word's are lent; the checksum takes them as a number, the low byte first
     code = Code(of_sheet)
     counts, refused, checksum = [0] * 8, 0, 0
     for word in range(2 ** code.n):
         found = code.near(word)
         if found:
-            reply, buffer = (found[0] ^ word).bit_count(), in_bytes(found[0], code.n)
+            reply, buffer = (found[0] ^ word).bit_count(), word_bytes(found[0], code.n)
             counts[reply] += 1
         else:
             reply, buffer = 128 + 13, b''
@@ -324,12 +324,19 @@ def cases(of_sheet, *pairs):
     # document 01's own: the received word and the right one
     n = of_sheet[2]
     for word, codeword in pairs:
-        yield 3, in_bytes(word, n), (n + 7) // 8, in_answer(codeword, word, n)
+        yield 3, word_bytes(word, n), (n + 7) // 8, in_answer(codeword, word, n)
+
+
+def byte_examples():
+    # document 02's for sheet H: word 01 has a spare bit, and word 80 is the mask 1 of case 5
+    yield 3, b'\x01', 1, 'decode refused 12 aa'
+    yield 3, b'\x80', 1, 'decode returned 1 00'
 
 
 def sheets_with_calls():
     draw = Sequence(20261115)
     yield H, cases(H, (10, 11), (1, 0), (127, 127))
+    yield H, byte_examples()
     yield E, cases(E, (3, None), (28, 29))
     for s in whole_sheets(draw):
         yield s, whole_call(s)

@@ -2,7 +2,8 @@
 # them together with those of decode.
 #
 # For each sheet there are judge's answer, 'accepted n k s working d t terms' or 'refused number', the listing that card gives,
-# and what encode and read reply and leave in the buffer. Polynomials over two elements are sets of exponents, words numbers.
+# and what encode and read reply and leave in the buffer. Polynomials over two elements are sets of exponents, words and messages
+# masks over their places: word_bytes and message_bytes say how those lie in bytes, here and for the scripts that go by this one.
 from math import gcd
 
 
@@ -229,8 +230,16 @@ def encoded(message, g):
     return message << checks | remainder(message << checks, g)
 
 
-def in_bytes(mask, places):
-    return mask.to_bytes((places + 7) // 8, 'little')
+def message_bytes(mask, k):
+    # document 01: "place i has weight 2^(i mod 8) in byte i div 8", which document 02 keeps for messages
+    return mask.to_bytes((k + 7) // 8, 'little')
+
+
+def word_bytes(mask, n):
+    # document 02: "place i of a word has weight 2^(7 - i mod 8) in byte i div 8". So the bytes, written in binary one after the other,
+    # are the places in turn, and the spare bits come last
+    size = (n + 7) // 8
+    return int(format(mask, '0%db' % (8 * size))[::-1], 2).to_bytes(size, 'big')
 
 
 def parts(sheet):
@@ -269,24 +278,30 @@ def calls(sheet):
     a, b = (k + 7) // 8, (n + 7) // 8
     for message in (0, 1, 2 ** k - 1, sum((37 * i + 5) % 256 << 8 * i for i in range(16)) % 2 ** k):
         word = encoded(message, g)
-        yield 1, in_bytes(message, k), b, 'encode returned 0 ' + in_bytes(word, n).hex()
-        yield 2, in_bytes(word, n), a, 'read returned 0 ' + in_bytes(message, k).hex()
+        yield 1, message_bytes(message, k), b, 'encode returned 0 ' + word_bytes(word, n).hex()
+        yield 2, word_bytes(word, n), a, 'read returned 0 ' + message_bytes(message, k).hex()
         for place in {0, 7 * k % n, n - 1}:
             wrong = word ^ 1 << place
             if remainder(wrong, g):
-                yield 2, in_bytes(wrong, n), a, 'read refused 14 ' + 'aa' * a
+                yield 2, word_bytes(wrong, n), a, 'read refused 14 ' + 'aa' * a
             else:
-                yield 2, in_bytes(wrong, n), a, 'read returned 0 ' + in_bytes(wrong >> len(zeros), k).hex()
+                yield 2, word_bytes(wrong, n), a, 'read returned 0 ' + message_bytes(wrong >> len(zeros), k).hex()
     if k % 8:
-        yield 1, in_bytes(message | 1 << k, k), b, 'encode refused 12 ' + 'aa' * b
-        yield 1, in_bytes(message | 1 << 8 * a - 1, k), b + 1, 'encode refused 11 ' + 'aa' * (b + 1)
-    yield 2, in_bytes(word | 1 << n, n), a, 'read refused 12 ' + 'aa' * a
-    yield 2, in_bytes(word | 1 << 8 * b - 1, n), a + 1, 'read refused 11 ' + 'aa' * (a + 1)
-    yield 1, in_bytes(message, k) + b'\0', b, 'encode refused 11 ' + 'aa' * b
-    yield 1, in_bytes(message, k), b - 1, 'encode refused 11 ' + 'aa' * (b - 1)
+        yield 1, message_bytes(message | 1 << k, k), b, 'encode refused 12 ' + 'aa' * b
+        yield 1, message_bytes(message | 1 << 8 * a - 1, k), b + 1, 'encode refused 11 ' + 'aa' * (b + 1)
+    yield 2, word_bytes(word | 1 << n, n), a, 'read refused 12 ' + 'aa' * a
+    yield 2, word_bytes(word | 1 << 8 * b - 1, n), a + 1, 'read refused 11 ' + 'aa' * (a + 1)
+    yield 1, message_bytes(message, k) + b'\0', b, 'encode refused 11 ' + 'aa' * b
+    yield 1, message_bytes(message, k), b - 1, 'encode refused 11 ' + 'aa' * (b - 1)
     yield 1, b'', b, 'encode refused 11 ' + 'aa' * b
-    yield 2, in_bytes(word, n)[1:], a, 'read refused 11 ' + 'aa' * a
-    yield 2, in_bytes(word, n) + b'\0', a, 'read refused 11 ' + 'aa' * a
+    yield 2, word_bytes(word, n)[1:], a, 'read refused 11 ' + 'aa' * a
+    yield 2, word_bytes(word, n) + b'\0', a, 'read refused 11 ' + 'aa' * a
+
+
+def byte_examples():
+    # document 02, for sheet H: "The byte example of refusal 12 becomes word 01, and that of 14 becomes word 80."
+    yield 2, b'\x01', 1, 'read refused 12 aa'
+    yield 2, b'\x80', 1, 'read refused 14 aa'
 
 
 SHEETS = list(known()) + list(drawn(400))
@@ -296,3 +311,5 @@ def entry_calls():
     for s in SHEETS:
         for call in calls(s):
             yield s, *call
+    for call in byte_examples():
+        yield SHEETS[0], *call

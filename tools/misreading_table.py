@@ -1,5 +1,5 @@
-# Misreadings of document 01, for tools/misreadings: each is a name and what is replaced in tools/second_reading.py, a line or a part
-# of one, by what. What is replaced must stand there exactly once.
+# Misreadings of document 01 and of request 2026-01 of document 02, for tools/misreadings: each is a name and what is replaced in
+# tools/second_reading.py, a line or a part of one, by what. What is replaced must stand there exactly once.
 MISREADINGS = []
 
 
@@ -167,24 +167,67 @@ misread('decode: t of the last certificate', RADIUS, RADIUS.replace('record(shee
 # ---- the code
 for s, mask in ((3, 11), (4, 19), (5, 37), (6, 67), (7, 131), (8, 285), (9, 529), (10, 1033), (11, 2053), (12, 4179)):
     misread('field: the reversed mask for s = %d' % s, ' %d: %d' % (s, mask), ' %d: %d' % (s, int(bin(mask)[:1:-1], 2)))
-misread('words: most significant bit first', "int.from_bytes(given, 'little')",
-        "int.from_bytes((int(bin(256 + x)[:2:-1], 2) for x in given), 'little')", "return mask.to_bytes(in_bytes(places), 'little')",
-        "return bytes(int(bin(256 + x)[:2:-1], 2) for x in mask.to_bytes(in_bytes(places), 'little'))")
-misread('words: high byte first', "int.from_bytes(given, 'little')", "int.from_bytes(given, 'big')",
-        "mask.to_bytes(in_bytes(places), 'little')", "mask.to_bytes(in_bytes(places), 'big')")
 ENCODED = 'return shifted ^ rest(shifted, generator(sheet))'
 misread('encode: message times generator', ENCODED, 'return times(message, generator(sheet), 1 << 200)')
 misread('encode: places below n - k left 0', ENCODED, 'return shifted')
 misread('read: the low places', 'return word >> byte(sheet, 2) - k_of(sheet)', 'return word % 2 ** k_of(sheet)')
 misread('decode: to t - 1 places', 'for weight in range(t + 1):', 'for weight in range(max(t, 1)):')
 misread('decode: to t + 1 places', 'for weight in range(t + 1):', 'for weight in range(t + 2):')
-DECODED = "return 'returned', (right ^ mask).bit_count(), as_bytes(right, n)"
+DECODED = "return 'returned', (right ^ mask).bit_count(), word_bytes(right, n)"
 COUNT = '(right ^ mask).bit_count()'
-misread('decode: the word as received', DECODED, DECODED.replace('as_bytes(right, n)', 'given'))
+misread('decode: the word as received', DECODED, DECODED.replace('word_bytes(right, n)', 'given'))
 misread('decode: returns 0', DECODED, DECODED.replace(COUNT, '0'))
-misread('decode: counts bytes', DECODED, DECODED.replace(COUNT, 'sum(x > 0 for x in as_bytes(right ^ mask, n))'))
+misread('decode: counts bytes', DECODED, DECODED.replace(COUNT, 'sum(x > 0 for x in word_bytes(right ^ mask, n))'))
 misread('decode: message places counted only', DECODED, DECODED.replace(COUNT, '(right >> n - k ^ mask >> n - k).bit_count()'))
-misread('decode: message in place of the word', 'as_bytes(right, n)', 'as_bytes(right >> n - k, n)')
+misread('decode: message in place of the word', 'word_bytes(right, n)', 'word_bytes(right >> n - k, n)')
+
+# ---- words and messages in bytes
+WEIGHT = 'return 2 ** (7 - i % 8)'
+misread('words: least significant bit first, as document 01 has it', WEIGHT, 'return 2 ** (i % 8)')
+misread('messages: most significant bit first too', 'return 2 ** (i % 8)', WEIGHT)
+misread('messages most significant bit first, words not', WEIGHT, 'return 2 ** (i % 8) ', 'return 2 ** (i % 8)\n', WEIGHT + '\n')
+HANDED = 'message_weight if kind == 1 else word_weight'
+misread('messages: high byte first', 'mask_in(given, message', 'mask_in(given[::-1] if kind == 1 else given, message',
+        'bytes_with(mask, k, message_weight)', 'bytes_with(mask, k, message_weight)[::-1]')
+misread('encode: the message most significant bit first', HANDED, 'word_weight')
+misread('encode: the word least significant bit first', 'word_bytes(codeword(sheet, mask), n)', 'message_bytes(codeword(sheet, mask), n)')
+misread('read: the word least significant bit first', HANDED, HANDED.replace('kind == 1', 'kind in (1, 2)'))
+misread('read: the message most significant bit first', 'message_bytes(message_in(', 'word_bytes(message_in(')
+misread('decode: the received word least significant bit first', HANDED, HANDED.replace('kind == 1', 'kind in (1, 3)'))
+misread('decode: the corrected word least significant bit first', 'word_bytes(right, n)', 'message_bytes(right, n)')
+# another layout of words. Their bytes written in binary are the places in turn; `laid` brings the other layout's digits into that order,
+# and `back` from it
+LAYOUT = '''def laid(digits, n):
+    return %s
+
+
+def back(digits, n):
+    return %s
+
+
+def rearranged(how, given, n):
+    digits = how(''.join(format(x, '08b') for x in given), n)
+    return bytes(int(digits[i:i + 8], 2) for i in range(0, len(digits), 8))
+
+
+def relaid(kind, sheet, given, out):
+    n = byte(sheet, 2)
+    if kind != 1 and 0 < len(given) == in_bytes(n):
+        given = rearranged(laid, given, n)
+    end, number, left = called(kind, sheet, given, out)
+    return end, number, rearranged(back, left, n) if kind != 2 and end == 'returned' else left
+
+
+def told('''
+CALLED = "end, number, out = called(kind, sheet, given, b'\\xaa' * space)"
+SPARE_FIRST = 'digits[:-8] + digits[-8:][-n % 8:] + digits[-8:][:-n % 8]'
+for name, laid, back in (
+        ('high byte first', "''.join(digits[i:i + 8] for i in range(len(digits) - 8, -1, -8))", None),
+        ('as one number, high byte first', 'digits[::-1]', None),
+        ('the highest place first', 'digits[:n][::-1] + digits[n:]', None),
+        ('the last byte least significant bit first', 'digits[:-8] + digits[-8:][::-1]', None),
+        ('the places of the last byte in its low bits', SPARE_FIRST, SPARE_FIRST.replace('-n % 8', 'n % 8'))):
+    misread('words: ' + name, 'def told(', LAYOUT % (laid, back or laid), CALLED, CALLED.replace('called', 'relaid'))
 
 # ---- 11 to 14
 for what, line in (('input', '11 if len(given) != in_bytes(places) else 0'), ('output', '11 if len(out) != in_bytes(places) else 0')):
@@ -195,13 +238,15 @@ misread('11: a message has n/8 bytes', '''    places = k_of(sheet) if kind == 1 
     return 11''', '''    places = byte(sheet, 2)
     return 11''')
 misread('11: one byte too many where k or n is a multiple of 8', '(count + 7) // 8', 'count // 8 + 1')
-SPARE = '12 if as_mask(given) >> places else 0'
+SPARE = '12 if handed(kind, given) >> places else 0'
 misread('12: spare bits ignored', SPARE, '0')
-misread('12: the lowest spare bit only', SPARE, '12 if as_mask(given) >> places & 1 else 0')
-misread('12: the highest spare bit only', SPARE, '12 if places % 8 and given[-1:] >= bytes([128]) else 0')
-misread('12: spare bits of messages ignored', SPARE, '12 if kind != 1 and as_mask(given) >> places else 0')
-misread('12: spare bits of words read out ignored', SPARE, '12 if kind != 2 and as_mask(given) >> places else 0')
-misread('12: spare bits of words decoded ignored', SPARE, '12 if kind != 3 and as_mask(given) >> places else 0')
+misread('12: the first spare place only', SPARE, '12 if handed(kind, given) >> places & 1 else 0')
+misread('12: the last spare place only', SPARE, '12 if places % 8 and handed(kind, given) >> 8 * len(given) - 1 else 0')
+misread('12: spare bits of words at the high end', SPARE, '12 if mask_in(given, message_weight) >> places else 0')
+misread('12: spare bits of messages at the low end', SPARE, '12 if mask_in(given, word_weight) >> places else 0')
+misread('12: spare bits of messages ignored', SPARE, '12 if kind != 1 and handed(kind, given) >> places else 0')
+misread('12: spare bits of words read out ignored', SPARE, '12 if kind != 2 and handed(kind, given) >> places else 0')
+misread('12: spare bits of words decoded ignored', SPARE, '12 if kind != 3 and handed(kind, given) >> places else 0')
 ORDER = '(sheet_refused, input_length, output_length, spare_bit, none_found)'
 misread('12 before 11', ORDER, '(sheet_refused, spare_bit, input_length, output_length, none_found)')
 misread('12 before 11 of the output', ORDER, '(sheet_refused, input_length, spare_bit, output_length, none_found)')
@@ -215,7 +260,7 @@ misread('11 before the certificates', ORDER, '(header_refused, input_length, out
 
 
 def input_length(''')
-misread('13: the word as received in its place', 'if kind == 3 and nearest(sheet, as_mask(given)) is None:', 'if False:',
+misread('13: the word as received in its place', 'if kind == 3 and nearest(sheet, handed(kind, given)) is None:', 'if False:',
         'right = nearest(sheet, mask)', 'right = mask if nearest(sheet, mask) is None else nearest(sheet, mask)')
 misread('13 and 14 swapped', 'return 13', 'return 14 ', 'return 14\n', 'return 13\n')
 misread('14: a word that is no codeword read out', 'if kind == 2 and rest(', 'if kind == 0 and rest(')

@@ -1,7 +1,7 @@
-# A second reading of document 01, made from its text alone: judge, card, encode, read and decode as searches and sums, with none of
-# the product's code and none of entry_answers.py's. Polynomials over two elements are masks, as in the document. What the document
-# leaves open (card's buffer of 1,024 bytes and its 11, the last newline, the 0 that encode and read return) is as docs/PROMISES.md
-# says.
+# A second reading of document 01, with request 2026-01 of document 02, made from their text alone: judge, card, encode, read and decode
+# as searches and sums, with none of the product's code and none of entry_answers.py's. Polynomials over two elements are masks, as in the
+# document. What the document leaves open (card's buffer of 1,024 bytes and its 11, the last newline, the 0 that encode and read return)
+# is as docs/PROMISES.md says.
 #
 # tools/boundary_answers.py answers its calls by it. tools/misreadings replaces single lines of it, each by a wrong reading: that is
 # why every condition stands in a line of its own, and why what comes first is told by tables.
@@ -237,7 +237,7 @@ def record(sheet):
     return n, k_of(sheet), smallest_s(n), working(sheet), c.d, c.t, c.terms
 
 
-# ---- the code
+# ---- the generator
 @lru_cache(None)
 def powers_of_omega(s):
     powers = [1]
@@ -260,18 +260,42 @@ def generator_of(n, members):
     return sum(a << i for i, a in enumerate(g))
 
 
+# ---- words and messages in bytes
 def in_bytes(count):
     return (count + 7) // 8
 
 
-def as_mask(given):
-    return int.from_bytes(given, 'little')
+def word_weight(i):
+    # document 02: "place i of a word has weight 2^(7 - i mod 8) in byte i div 8"
+    return 2 ** (7 - i % 8)
 
 
-def as_bytes(mask, places):
-    return mask.to_bytes(in_bytes(places), 'little')
+def message_weight(i):
+    # document 02: "Messages keep 01's order", and there "place i has weight 2^(i mod 8) in byte i div 8"
+    return 2 ** (i % 8)
 
 
+def mask_in(given, weight):
+    # of every place that the bytes have, spare ones too
+    return sum(1 << i for i in range(8 * len(given)) if given[i // 8] & weight(i))
+
+
+def bytes_with(mask, places, weight):
+    made = bytearray(in_bytes(places))
+    for i in range(mask.bit_length()):
+        made[i // 8] += (mask >> i & 1) * weight(i)
+    return bytes(made)
+
+
+def word_bytes(mask, n):
+    return bytes_with(mask, n, word_weight)
+
+
+def message_bytes(mask, k):
+    return bytes_with(mask, k, message_weight)
+
+
+# ---- codewords
 def codeword(sheet, message):
     shifted = message << byte(sheet, 2) - k_of(sheet)
     return shifted ^ rest(shifted, generator(sheet))
@@ -304,6 +328,11 @@ def nearest(sheet, word):
 NAMES = {1: 'encode', 2: 'read', 3: 'decode'}
 
 
+def handed(kind, given):
+    # the mask of a message, which encode takes, or of a word
+    return mask_in(given, message_weight if kind == 1 else word_weight)
+
+
 def sheet_refused(kind, sheet, given, out):
     return judged(sheet)
 
@@ -320,13 +349,13 @@ def output_length(kind, sheet, given, out):
 
 def spare_bit(kind, sheet, given, out):
     places = k_of(sheet) if kind == 1 else byte(sheet, 2)
-    return 12 if as_mask(given) >> places else 0
+    return 12 if handed(kind, given) >> places else 0
 
 
 def none_found(kind, sheet, given, out):
-    if kind == 3 and nearest(sheet, as_mask(given)) is None:
+    if kind == 3 and nearest(sheet, handed(kind, given)) is None:
         return 13
-    if kind == 2 and rest(as_mask(given), generator(sheet)) != 0:
+    if kind == 2 and rest(handed(kind, given), generator(sheet)) != 0:
         return 14
     return 0
 
@@ -340,13 +369,13 @@ def called(kind, sheet, given, out):
         number = refusal(kind, sheet, given, out)
         if number:
             return 'refused', number, out
-    n, k, mask = byte(sheet, 2), k_of(sheet), as_mask(given)
+    n, k, mask = byte(sheet, 2), k_of(sheet), handed(kind, given)
     if kind == 1:
-        return 'returned', 0, as_bytes(codeword(sheet, mask), n)
+        return 'returned', 0, word_bytes(codeword(sheet, mask), n)
     if kind == 2:
-        return 'returned', 0, as_bytes(message_in(sheet, mask), k)
+        return 'returned', 0, message_bytes(message_in(sheet, mask), k)
     right = nearest(sheet, mask)
-    return 'returned', (right ^ mask).bit_count(), as_bytes(right, n)
+    return 'returned', (right ^ mask).bit_count(), word_bytes(right, n)
 
 
 def listing(sheet):
@@ -376,14 +405,11 @@ def told(sheet, kind, given, space):
         first = 'refused %d\n' % judged(sheet) if judged(sheet) else 'accepted %d %d %d %d %d %d %d\n' % record(sheet)
         return ended(first + (out[:number].decode('latin-1') if end == 'returned' else 'refused %d\n' % number))
     if kind == 5:
-        end, number, out = carded(sheet, b'\xaa' * as_mask(given))
+        end, number, out = carded(sheet, b'\xaa' * int.from_bytes(given, 'little'))
         start = number if end == 'returned' else 0
         return ended('card %s %d then aa %d\n' % (end, number, out[start:].count(0xaa)) + out[:start].decode('latin-1'))
-    return '%s %s %d %s' % (NAMES[kind], *shown(called(kind, sheet, given, b'\xaa' * space)))
-
-
-def shown(answer):
-    return answer[0], answer[1], answer[2].hex()
+    end, number, out = called(kind, sheet, given, b'\xaa' * space)
+    return '%s %s %d %s' % (NAMES[kind], end, number, out.hex())
 
 
 def ended(text):

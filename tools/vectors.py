@@ -2,8 +2,8 @@
 # Calls of the entries whose answers were made elsewhere: tools/answers.py puts them among the calls of the program crates/vectors.
 #
 # tools/vectors/itpp.txt has BCH codes by IT++, tools/vectors/guava.txt cyclic codes by GAP and GUAVA; tools/vectors/make makes
-# both. What is done here is to find the sheet of each code: D from the generator, and a certificate. What documents 001 to 003
-# say of a code, its k and its d, is held to what GUAVA says of it.
+# both. Their words are masks over places. What is done here is to find the sheet of each code: D from the generator, and a
+# certificate. What documents 001 to 003 say of a code, its k and its d, is held to what GUAVA says of it.
 #
 #     tools/vectors.py > docs/VECTORS.md    the page that says what there is
 import os
@@ -11,7 +11,7 @@ import sys
 from math import gcd
 
 sys.dont_write_bytecode = True
-from entry_answers import answer, certificate, coset, generator, in_bytes, listing, sheet
+from entry_answers import answer, certificate, coset, generator, listing, message_bytes, sheet, word_bytes
 
 FOLDER = os.path.join(os.path.dirname(os.path.abspath(__file__)), 'vectors')
 
@@ -124,11 +124,11 @@ def entry_calls():
         yield code.sheet, 0, b'', 0, '\n'.join([answer(code.sheet)] + listing(code.sheet))
         for word in code.words:
             message = word >> n - k
-            yield code.sheet, 1, in_bytes(message, k), (n + 7) // 8, 'encode returned 0 ' + in_bytes(word, n).hex()
-            yield code.sheet, 2, in_bytes(word, n), (k + 7) // 8, 'read returned 0 ' + in_bytes(message, k).hex()
+            yield code.sheet, 1, message_bytes(message, k), (n + 7) // 8, 'encode returned 0 ' + word_bytes(word, n).hex()
+            yield code.sheet, 2, word_bytes(word, n), (k + 7) // 8, 'read returned 0 ' + message_bytes(message, k).hex()
         for word, right in code.received:
             if right is not None and word != right:
-                yield code.sheet, 2, in_bytes(word, n), (k + 7) // 8, 'read refused 14 ' + 'aa' * ((k + 7) // 8)
+                yield code.sheet, 2, word_bytes(word, n), (k + 7) // 8, 'read refused 14 ' + 'aa' * ((k + 7) // 8)
     for changed, number in refused():
         yield changed, 0, b'', 0, 'refused %s\nrefused %s' % (number, number)
         yield changed, 1, bytes(2), 2, 'encode refused %s aaaa' % number
@@ -141,12 +141,12 @@ def decode_calls():
         for word, right in code.received:
             size = (n + 7) // 8
             if right is not None and (word ^ right).bit_count() <= t:
-                told = 'decode returned %d %s' % ((word ^ right).bit_count(), in_bytes(right, n).hex())
+                told = 'decode returned %d %s' % ((word ^ right).bit_count(), word_bytes(right, n).hex())
             else:
                 # IT++ failed, or GUAVA's nearest codeword is further than t
                 assert right is None or code.kind == 'cyclic'
                 told = 'decode refused 13 ' + 'aa' * size
-            yield code.sheet, 3, in_bytes(word, n), size, told
+            yield code.sheet, 3, word_bytes(word, n), size, told
     for changed, number in refused():
         yield changed, 3, bytes(2), 2, 'decode refused %s aaaa' % number
 
@@ -158,6 +158,9 @@ cyclic codes, and by a plain decoder in Python. `tools/vectors/make` makes those
 
 - tools/vectors/itpp.txt: %(itpp)s;
 - tools/vectors/guava.txt: %(guava)s.
+
+In both files a word is a mask over its places. tools/entry_answers.py puts words and messages into bytes: the first of the places in a
+byte is its highest bit in a word (document 02, request 2026-01), and its lowest in a message (document 01).
 
 `tools/vectors.py` finds the sheet of each code and turns the files into %(entries)d calls of judge, card, encode and read and
 %(decodes)d of decode. It has also written this page. The plain decoder is tools/decode_answers.py, which goes through error patterns or

@@ -26,7 +26,7 @@ pub fn words_line(sheet: &[u8], n: usize) {
     show(&counts, checksum);
 }
 
-// The checksum with a word's answer, which is counted.
+// The checksum with the answer to a word, which is counted. The word is a mask over its places.
 fn with_word(
     sheet: &[u8],
     word: u32,
@@ -38,9 +38,9 @@ fn with_word(
     ensures { λ r. ⌜ r < 4294967291 ⌝ }
 {
     let bytes = [
-        (word % 256) as u8,
-        (word / 256 % 256) as u8,
-        (word / 65536 % 256) as u8,
+        word_byte((word % 256) as u8),
+        word_byte((word / 256 % 256) as u8),
+        word_byte((word / 65536 % 256) as u8),
     ];
     let mut out = [170u8; 3];
     let x = reply_value(decode_part(sheet, &bytes, &mut out, count));
@@ -48,6 +48,14 @@ fn with_word(
     counts[at] = std::num::wrapping_add_usize(counts[at], 1);
     let value = ((x * 256 + wide(out[2])) * 256 + wide(out[1])) * 256 + wide(out[0]);
     (checksum * 1000003 + value) % 4294967291
+}
+
+// A byte of a word from eight places of a mask: "place i of a word has weight 2^(7 - i mod 8) in byte i div 8". The halves of the byte
+// change sides, then pairs in each half, then the two of each pair.
+fn word_byte(places: u8) -> u8 {
+    let halves = (places << 4) | (places >> 4);
+    let pairs = ((halves & 51) << 2) | ((halves >> 2) & 51);
+    ((pairs & 85) << 1) | ((pairs >> 1) & 85)
 }
 
 // Decodes with the first bytes of word and buffer.

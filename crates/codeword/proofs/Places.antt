@@ -11,6 +11,7 @@
 --   bytes-same, bytes-unique       bytes whose places are those of a mask, or those and 0 from n on, are its bytes
 --   spare-none, spare-clear      no spare bit: all places from n on are 0
 --   places-length, places-at, places-hold   all places of a word's bytes, and the mask that they are
+--   four-are               four places of a word by the shifts of half a byte
 use mathlib.Core.Path.{_≡_, refl, sym, ap, ap₂, _∙_, subst}
 use mathlib.Core.Logic.{_≢_, _⊎_, inl, inr}
 use mathlib.Core.Bool.{Bool, true, false}
@@ -22,7 +23,7 @@ use native.Mathlib.Omega.{arith}
 use lib.Dec.{eqb}
 use lib.Bits.{bitOr, bitAnd, and-mask}
 use lib.ListN.{length, getD, set, length-set, length-map, List·getD-eq-default}
-use lib.Pow.{shl-exact}
+use lib.Pow.{shl-exact, shr-shr}
 use lib.Seq.{getD-set-same, getD-set-other, ext-getD}
 use borrow.Author.Tests.{eqb-false, ne-eqb}
 use Rattle.algebra.proofs.Poly.{le-or-lt}
@@ -34,7 +35,7 @@ use Rattle.cyclic.proofs.Places.{coefficient-above, same-places}
 use Rattle.document.specs.Layout.{wordWeight, messageWeight, bytesFor, place, maskOf, byteOf, bytesOf, spare}
 use Rattle.document.proofs.Stated.{tabulated-at, tabulated-length}
 use Rattle.binary.specs.Bits.{Holds}
-use Rattle.codeword.specs.Place.{Put, placesOf}
+use Rattle.codeword.specs.Place.{Put, placesOf, fourPlaces}
 use Rattle.binary.proofs.Digits.{put-same, put-other, sum-at, sum-lt}
 
 -- place i is digit `shift (i mod 8)` of its byte, and digit e that of the place `back e` in the byte
@@ -298,3 +299,34 @@ places-hold n word a d = record { at = λ i. go i (le-or-lt (length word * 8) i)
     go i (inr h) (inl k) =
         places-at word i h ∙ spare-none wordWeight n word d i k (omega (arith, a)) ∙ sym (mask-above wordWeight n word i k)
     go i (inr h) (inr k) = places-at word i h ∙ sym (mask-coefficient wordWeight n word i k)
+
+-- ---- half a byte
+pub bit-lt : (x : ℕ) → bitAnd x 1 < 2
+bit-lt x = rw (and-mask x 1) (digit-lt x)
+
+-- the byte of four places, with those after them shifted out
+abbrev pub half : List ℕ → ℕ → ℕ
+half word i = getD word (i / 8) 0 / 2 ^ (4 - i % 8)
+
+half-place : (word : List ℕ) (i j : ℕ) → i % 4 ≡ 0 → j < 4 → {x : ℕ} → x ≡ getD word (i / 8) 0 / 2 ^ (4 - i % 8 + (3 - j))
+    → bitAnd x 1 ≡ place wordWeight word (i + j)
+half-place word i j m h {x} q =
+    let e : 4 - i % 8 + (3 - j) ≡ 7 - (i + j) % 8 = omega arith in
+    let f : i / 8 ≡ (i + j) / 8 = omega arith in
+    and-mask x 1 ∙ ap (λ (y : ℕ). y % 2) q ∙ ap₂ (λ (y k : ℕ). getD word k 0 / 2 ^ y % 2) e f ∙ sym (place-is word-weights word (i + j))
+
+pub four-are : (word : List ℕ) (i : ℕ) → i % 4 ≡ 0
+    → ((bitAnd (half word i) 1 * 65536 + bitAnd (half word i / 2) 1) * 65536 + bitAnd (half word i / 4) 1) * 65536 + bitAnd (half word i / 8) 1
+    ≡ fourPlaces wordWeight word i
+unfolding fourPlaces total
+four-are word i m =
+    let b : ℕ = getD word (i / 8) 0 in
+    let p : ℕ = 4 - i % 8 in
+    let none : p ≡ p + 0 = omega arith in
+    omega (
+      arith,
+      half-place word i 0 m (omega arith) (shr-shr b p 3),
+      half-place word i 1 m (omega arith) (shr-shr b p 2),
+      half-place word i 2 m (omega arith) (shr-shr b p 1),
+      half-place word i 3 m (omega arith) (ap (λ (k : ℕ). b / 2 ^ k) none),
+    )

@@ -5,12 +5,13 @@
 --   Binary w               each entry is 0 or 1
 --   Packed weight w out    each place of the bytes is the entry of w
 --   placesOf word          all places of a word's bytes, spare ones too
+--   fourPlaces weight bytes i     places i to i + 3, 16 bits apart
 use mathlib.Core.Path.{_≡_}
 use mathlib.Core.Logic.{_≢_}
 use mathlib.Core.List.{List, map}
-use Prim.Native.Nat.{ℕ, _+_, _*_, _/_, _≤_, _<_}
+use Prim.Native.Nat.{ℕ, _+_, _*_, _/_, _^_, _≤_, _<_}
 use lib.ListN.{length, getD}
-use Rattle.field.specs.Search.{upTo}
+use Rattle.field.specs.Search.{upTo, total}
 use Rattle.document.specs.Layout.{wordWeight, place}
 
 pub record Put (weight : ℕ → ℕ) (i bit : ℕ) (old new : List ℕ) : Type 0 where
@@ -32,3 +33,6 @@ pub record Packed (weight : ℕ → ℕ) (w out : List ℕ) : Type 0 where
 
 unfoldable pub placesOf : List ℕ → List ℕ
 placesOf word = map (place wordWeight word) (upTo (length word * 8))
+
+unfoldable pub fourPlaces : (ℕ → ℕ) → List ℕ → ℕ → ℕ
+fourPlaces weight bytes i = total 4 (λ j. place weight bytes (i + j) * 2 ^ (16 * j))

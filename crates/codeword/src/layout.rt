@@ -1,15 +1,26 @@
-// Words and messages in bytes: single places read and set, and spare bits. Each layout has functions of its own.
+// Words and messages in bytes: single places read and set, four of a word read at once, and spare bits. Each layout has functions of
+// its own.
 ghost use mathlib.Core.Path.{_≡_};
-ghost use Prim.Native.Nat.{_/_, _<_, _≤_};
+ghost use Prim.Native.Nat.{_/_, _%_, _<_, _≤_};
 ghost use lib.ListN.{length};
 ghost use Rattle.document.specs.Layout.{wordWeight, messageWeight, bytesFor, place, spare};
-ghost use Rattle.codeword.specs.Place.{Put};
+ghost use Rattle.codeword.specs.Place.{Put, fourPlaces};
 
 pub fn word_place(bytes: &[u8], i: usize) -> u8
     requires { ⌜ i / 8 < length (now bytes) ⌝ }
     ensures { λ r. ⌜ r ≡ place wordWeight (now (bytes .entry)) i ⌝ }
 {
     (bytes[i / 8] >> (7 - i % 8)) & 1
+}
+
+// Places i to i + 3 of a word, 16 bits apart in one number, place i lowest: half a byte at once.
+pub fn word_places(bytes: &[u8], i: usize) -> u64
+    requires { ⌜ (i / 8 < length (now bytes)) × (i % 4 ≡ 0) ⌝ }
+    ensures { λ r. ⌜ r ≡ fourPlaces wordWeight (now (bytes .entry)) i ⌝ }
+{
+    let half = (bytes[i / 8] as u64) >> (4 - i % 8);
+    (((half & 1) * 65536 + ((half >> 1) & 1)) * 65536 + ((half >> 2) & 1)) * 65536
+        + ((half >> 3) & 1)
 }
 
 pub fn message_place(bytes: &[u8], i: usize) -> u8

@@ -38,6 +38,7 @@ module _ {n s b : ℕ} {w reps e g col val : List ℕ} (p : Computable n s w rep
   columnable = record {
     bits = p .bits;
     long = omega (arith, p .w-long);
+    even = omega arith;
     few = omega (arith, p .setting .odd .most);
   }
 
@@ -47,7 +48,7 @@ module _ {n s b : ℕ} {w reps e g col val : List ℕ} (p : Computable n s w rep
     summable {k} h a l c = record {
       powered = p .setting .powered;
       by-lt = by-lt (p .setting) q-is {k = k} h a;
-      b-lt = omega (arith, place-lt (p .setting) q-is (n - 1) (omega (arith, p .setting .odd .least)), p .setting .odd .least);
+      b-le = omega (arith, place-lt (p .setting) q-is (n - 1) (omega (arith, p .setting .odd .least)), p .setting .odd .least);
       even = omega arith;
       long = l;
       word = w;

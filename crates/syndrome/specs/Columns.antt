@@ -1,11 +1,11 @@
--- A word of 4 b places in b columns (the code's width), each with the places i, b + i, 2 b + i and 3 b + i in lanes. No entry's
--- contract cites this file.
+-- A word of 4 b places in b columns (the code's width), each with four neighbouring places in lanes. No entry's contract cites this
+-- file.
 --
---   runSum h w at m     the sum of h i over the i below m at which w has a 1 at place at + i
---   column b w i        the four places of column i
+--   runSum h p m        the sum of h i over the i below m at which p has a 1
+--   column w i          the four places of column i
 --   Columnable, Columned      the columns of a word: what they need, and what they are
 --   Summable b s by col e     columns of some word, and the powers of ω
---   Strips              the sums of ω^(i by) over the places of each lane
+--   LaneSums            the sums of ω^(4 i by) over the columns i that have a 1 in a lane, for each lane
 --   Valued              and the value that they make together
 use mathlib.Core.Path.{_≡_}
 use mathlib.Core.List.{List}
@@ -16,34 +16,35 @@ use Rattle.field.specs.Field.{ω, fieldPower}
 use Rattle.field.specs.Tables.{Powered}
 use Rattle.syndrome.specs.Lanes.{inLanes, lane}
 
-unfoldable pub runSum : (ℕ → ℕ) → List ℕ → (at m : ℕ) → ℕ
-runSum h w at zero = 0
-runSum h w at (suc i) = runSum h w at i ⊕ getD w (at + i) 0 * h i
+unfoldable pub runSum : (h p : ℕ → ℕ) → ℕ → ℕ
+runSum h p zero = 0
+runSum h p (suc i) = runSum h p i ⊕ p i * h i
 
-unfoldable pub column : ℕ → List ℕ → ℕ → ℕ
-column b w i = inLanes (λ j. getD w (j * b + i) 0)
+unfoldable pub column : List ℕ → ℕ → ℕ
+column w i = inLanes (λ j. getD w (4 * i + j) 0)
 
 pub record Columnable (b : ℕ) (w : List ℕ) : Type 0 where
   pub bits : (i : ℕ) → getD w i 0 < 2
   pub long : 4 * b ≤ length w
+  pub even : b % 2 ≡ 0
   pub few : b ≤ 65535
 
 pub record Columned (b : ℕ) (w col : List ℕ) : Type 0 where
   pub bits : (i : ℕ) → getD w i 0 < 2
-  pub at : (i : ℕ) → i < b → getD col i 0 ≡ column b w i
+  pub at : (i : ℕ) → i < b → getD col i 0 ≡ column w i
 
 pub record Summable (b s by : ℕ) (col e : List ℕ) : Type 0 where
   pub powered : Powered s e
   pub by-lt : by < 2 ^ s - 1
-  pub b-lt : b < 2 ^ s - 1
+  pub b-le : 4 * b ≤ 2 ^ s + 6
   pub even : b % 2 ≡ 0
   pub long : b ≤ length col
   pub word : List ℕ
   pub columned : Columned b word col
 
-pub record Strips (b s by : ℕ) (col : List ℕ) (r : ℕ) : Type 0 where
-  pub at : (w : List ℕ) → Columned b w col → (j : ℕ) → j < 4 → lane j r ≡ runSum (λ i. fieldPower s ω (i * by)) w (j * b) b
+pub record LaneSums (b s by : ℕ) (col : List ℕ) (r : ℕ) : Type 0 where
+  pub at : (w : List ℕ) → Columned b w col → (j : ℕ) → j < 4 → lane j r ≡ runSum (λ i. fieldPower s ω (4 * i * by)) (λ i. getD w (4 * i + j) 0) b
 
 pub record Valued (b s by : ℕ) (col : List ℕ) (r : ℕ) : Type 0 where
-  pub is : (w : List ℕ) → Columned b w col → r ≡ runSum (λ i. fieldPower s ω (i * by)) w 0 (4 * b)
+  pub is : (w : List ℕ) → Columned b w col → r ≡ runSum (λ i. fieldPower s ω (i * by)) (λ i. getD w i 0) (4 * b)
   pub lt : r < 2 ^ s

@@ -1,21 +1,17 @@
--- `syndrome::columns::value_by_columns` meets its contract: Horner's rule over the four strips.
+-- `syndrome::columns::value_by_columns` meets its contract: Horner's rule over the four lane_sums.
 use native.Mathlib.Omega.{arith}
 use Rattle.syndrome.proofs.Lanes.{lane-0, lane-1, lane-2, lane-3}
-use Rattle.syndrome.proofs.Horner.{strip-lt, sum-lt, valued}
+use Rattle.syndrome.proofs.Horner.{lane-lt, sum-lt, valued}
 use borrow.Author.Needs.{needs}
 use Rattle.syndrome.proofs.columns.value_by_columns.Statement.{statement}
 use Rattle.syndrome.proofs.columns.value_by_columns.Tie as tie
 use Rattle.syndrome.proofs.columns.value_by_columns.Reads as reads
 use Rattle.syndrome.proofs.columns.value_by_columns.Lts as lts
-use Rattle.syndrome.proofs.columns.strips.Reads as strips-reads
-use Rattle.field.proofs.exponent.index.Reads as index-reads
+use Rattle.syndrome.proofs.columns.lane_sums.Reads as lane-sums-reads
 use Rattle.field.proofs.logarithm.scaled.Reads as scaled-reads
 
-strips-requires : tie.Need-strips-requires
-strips-requires c κs = search needs
-
-index-requires : tie.Need-index-requires
-index-requires c κs = search needs
+lane-sums-requires : tie.Need-lane-sums-requires
+lane-sums-requires c κs = search needs
 
 cast-first : tie.Need-cast-first
 cast-first c = search needs
@@ -30,23 +26,22 @@ cast-fourth : tie.Need-cast-fourth
 cast-fourth c = search needs
 
 scaled-requires : tie.Need-scaled-requires
-scaled-requires c κs = let p = c .before .before .before .before .before .pre in (p .1, omega (arith, c .index .ensures .1), strip-lt (p .0) (c .before .strips .ensures) 3 (omega arith) (lane-3 _))
+scaled-requires c κs = let p = c .before .before .before .before .pre in (p .1, omega (arith, p .0 .by-lt), lane-lt (p .0) (c .lane-sums .ensures) 3 (omega arith) (lane-3 _))
 
 scaled-requires-2 : tie.Need-scaled-requires-2
-scaled-requires-2 c κs = let p = c .before .before .before .before .before .before .pre in (p .1, omega (arith, c .before .index .ensures .1), sum-lt (p .0) (c .before .before .strips .ensures) 2 _ _ (omega arith) (lane-2 _) (c .scaled .ensures))
+scaled-requires-2 c κs = let p = c .before .before .before .before .before .pre in (p .1, omega (arith, p .0 .by-lt), sum-lt (p .0) (c .before .lane-sums .ensures) 2 _ (omega arith) (lane-2 _) (c .scaled .ensures))
 
 scaled-requires-3 : tie.Need-scaled-requires-3
-scaled-requires-3 c κs = let p = c .before .before .before .before .before .before .before .pre in (p .1, omega (arith, c .before .before .index .ensures .1), sum-lt (p .0) (c .before .before .before .strips .ensures) 1 _ _ (omega arith) (lane-1 _) (c .scaled2 .ensures))
+scaled-requires-3 c κs = let p = c .before .before .before .before .before .before .pre in (p .1, omega (arith, p .0 .by-lt), sum-lt (p .0) (c .before .before .lane-sums .ensures) 1 _ (omega arith) (lane-1 _) (c .scaled2 .ensures))
 
 returns : tie.Need-returns
-returns c = let p = c .before .before .before .before .before .before .before .before .pre in valued (p .0) (c .before .before .before .before .strips .ensures) (c .before .before .before .index .ensures .0) (lane-0 _) (lane-1 _) (lane-2 _) (lane-3 _) (c .before .before .scaled .ensures) (c .before .scaled2 .ensures) (c .scaled3 .ensures)
+returns c = let p = c .before .before .before .before .before .before .before .pre in valued (p .0) (c .before .before .before .lane-sums .ensures) (lane-0 _) (lane-1 _) (lane-2 _) (lane-3 _) (c .before .before .scaled .ensures) (c .before .scaled2 .ensures) (c .scaled3 .ensures)
 
 pub value-by-columns-spec : {M : Type 1} → statement M
 value-by-columns-spec =
     tie.close
     (tie.spec
-    strips-requires
-    index-requires
+    lane-sums-requires
     cast-first
     cast-second
     cast-third

@@ -1,6 +1,5 @@
 -- Lanes.
 --
---   spaced-are        as the code puts them together
 --   spaced-le         digits beside each other
 --   lane-add          lanes add up each for itself
 --   lane-times        digits times a number below 2^16
@@ -15,10 +14,6 @@ use Rattle.field.specs.Search.{total}
 use Rattle.field.specs.Mask.{_⊕_}
 use Rattle.field.proofs.Xor.{digit, ⊕-shr}
 use Rattle.syndrome.specs.Lanes.{inLanes, lane}
-
-pub spaced-are : (h : ℕ → ℕ) → ((h 3 * 65536 + h 2) * 65536 + h 1) * 65536 + h 0 ≡ inLanes h
-unfolding inLanes total
-spaced-are h = omega arith
 
 pub spaced-le : (h : ℕ → ℕ) → ((j : ℕ) → h j < 2) → inLanes h ≤ inLanes (λ j. 1)
 unfolding inLanes total

@@ -8,9 +8,6 @@ use Rattle.syndrome.specs.Columns.{Columnable}
 use Rattle.syndrome.proofs.Columning.{places-in, Columning, columning-start, columning-two, columning-end}
 use Rattle.syndrome.proofs.columns.fill_columns.Statement.{statement}
 use Rattle.syndrome.proofs.columns.fill_columns.Tie as tie
-use Rattle.syndrome.proofs.columns.fill_columns.Reads as reads
-use Rattle.syndrome.proofs.columns.fill_columns.Lts as lts
-use Rattle.codeword.proofs.layout.word_places.Reads as word-places-reads
 
 abbrev Inv-loop : tie.InvT-loop
 Inv-loop word width columns₀ i₀ columns i = Columnable width (placesOf word) × (width ≤ length columns₀) × (length columns ≡ length columns₀) × (i ≤ width) × (i % 2 ≡ 0) × Columning i (placesOf word) columns

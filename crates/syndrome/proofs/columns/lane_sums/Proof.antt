@@ -9,11 +9,6 @@ use Rattle.syndrome.specs.Columns.{Summable}
 use Rattle.syndrome.proofs.Columning.{LaneSumming, summing-start, summing-two, summing-end, looked-four, four-lt, power-fits}
 use Rattle.syndrome.proofs.columns.lane_sums.Statement.{statement}
 use Rattle.syndrome.proofs.columns.lane_sums.Tie as tie
-use Rattle.syndrome.proofs.columns.lane_sums.Reads as reads
-use Rattle.syndrome.proofs.columns.lane_sums.Lts as lts
-use Rattle.field.proofs.exponent.fold.Reads as fold-reads
-use Rattle.field.proofs.exponent.index.Reads as index-reads
-use Rattle.syndrome.proofs.columns.wide.Reads as wide-reads
 
 abbrev Inv-loop : tie.InvT-loop
 Inv-loop columns width s by powers next a₀ i₀ a i = Summable width s by columns powers × (next ≡ 4 * by % 2 ^ s + 4 * by / 2 ^ s) × (next < 2 * (2 ^ s - 1)) × (i ≤ width) × (i % 2 ≡ 0) × LaneSumming s by i width columns a

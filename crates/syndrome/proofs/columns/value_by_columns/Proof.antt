@@ -5,10 +5,6 @@ use Rattle.syndrome.proofs.Horner.{lane-lt, sum-lt, valued}
 use borrow.Author.Needs.{needs}
 use Rattle.syndrome.proofs.columns.value_by_columns.Statement.{statement}
 use Rattle.syndrome.proofs.columns.value_by_columns.Tie as tie
-use Rattle.syndrome.proofs.columns.value_by_columns.Reads as reads
-use Rattle.syndrome.proofs.columns.value_by_columns.Lts as lts
-use Rattle.syndrome.proofs.columns.lane_sums.Reads as lane-sums-reads
-use Rattle.field.proofs.logarithm.scaled.Reads as scaled-reads
 
 lane-sums-requires : tie.Need-lane-sums-requires
 lane-sums-requires c κs = search needs

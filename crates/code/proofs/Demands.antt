@@ -7,10 +7,10 @@
 --   Demand2, demand-2      codewords, encoding and reading out; certificates, and the distance that they yield
 --   Demand3, demand-3      decoding
 --   Request01, request-01      2026-01, highest bit first: how words and messages lie in bytes
--- A record for each demand, a field for each clause, under the clause's words. Each is for every list of bytes that may be a sheet; x is
--- what it states. A record for each request, likewise. The words are in specs/Published.antt and specs/Table.antt, under document 01's sentences. That the field's masks are the smallest
--- primitive ones is mask-least of field/proofs/Smallest.antt; examples, 13 with a buffer that was not 0 among them, are the tables of
--- document/proofs/Cases.antt.
+-- A record for each demand and for each request, a field for each clause, under the clause's words. Each demand is for every list of bytes
+-- that may be a sheet; x is what it states. The words are in specs/Published.antt and specs/Table.antt, under the documents' sentences. That
+-- the field's masks are the smallest primitive ones is mask-least of field/proofs/Smallest.antt; examples, 13 with a buffer that was not 0
+-- among them, are the tables of document/proofs/Cases.antt.
 use mathlib.Core.Path.{_≡_, refl}
 use mathlib.Core.Logic.{_≢_, _↔_, _⊎_}
 use mathlib.Core.List.{List, [], _∷_, _++_}
@@ -160,7 +160,7 @@ module _ (sheet : List ℕ) where
     -- any two different codewords differ in at least d places
     pub apart : IsAccepted sheet → (c c′ : ℕ) → CodewordOf x c → CodewordOf x c′ → c ≢ c′ → d ≤ differences (x .n) c c′
 
--- ---- 2026-01, highest bit first: for all bytes
+-- ---- 2026-01, highest bit first: for all bytes; spare bits for a buffer of the right length
 pub record Request01 : Type 0 where
   -- "place i of a word has weight 2^(7 - i mod 8) in byte i div 8"
   pub word-order : (word : List ℕ) (i : ℕ) → place wordWeight word i ≡ getD word (i / 8) 0 / 2 ^ (7 - i % 8) % 2

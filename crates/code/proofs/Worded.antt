@@ -1,4 +1,4 @@
--- Demands 2 and 3 in the words of specs/Published.antt: for every sheet of document 01's kind.
+-- Demands 2 and 3 in the words of specs/Published.antt, for every sheet of document 01's kind; and the spare bits of 2026-01.
 --
 --   places-there, places-back      places in bytes, by a test for spare bits and without
 --   word-spare-said, message-spare-said      the spare bits are the low, or the high, bits of the last byte

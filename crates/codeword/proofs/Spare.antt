@@ -4,7 +4,7 @@
 --   clear-iff              no spare bit is 1: the digits of the last byte that places from n on would take are 0, in any layout
 --   word-clear-iff         a word's are the low digits
 --   message-clear-iff      a message's are the high ones
---   some-byte, spare-few, spare-le    there is a last byte, and some places are in it
+--   some-byte, places-fit, spare-le    there is a last byte, and some places are in it
 --   word-tested, message-tested      the code's tests
 use mathlib.Core.Path.{_≡_, refl, sym, ap, ap₂, _∙_}
 use mathlib.Core.Logic.{_↔_, Iff·trans}
@@ -51,9 +51,9 @@ module _ (n : ℕ) (l : List ℕ) (long : length l ≡ bytesFor n) (some : 1 ≤
   unfolding bytesFor
   spare-le = omega (arith, long)
 
-  pub spare-few : n ≤ 8 * length l
+  pub places-fit : n ≤ 8 * length l
   unfolding bytesFor
-  spare-few = omega (arith, long)
+  places-fit = omega (arith, long)
 
   -- ---- by the digits of the last byte
   module _ {w : ℕ → ℕ} (W : Weights w) where

@@ -199,7 +199,7 @@ near =
     ∷ record-of (sheetOf 7 [] (certificateOf 0 1 7 0 2 1) 18 1)  -- R = 0 refused; a term that is 0 held to D
     ∷ (generatorOf (stated (sheetB 4)) ∷ decodes (sheetB 4) 466)  -- another root of order n for α: with α^14 the generator is 279
     ∷ answered (encodeOf nine (0x83 ∷ []) (0xAA ∷ 0xBB ∷ []))  -- a byte more for k = 8, or one less for n = 9; messages high bit first, words low bit first; place 8 at the low end
-    ∷ answered (readOf nine (0xE0 ∷ 0xC0 ∷ []) (0xAA ∷ []))  -- the lowest spare bit alone looked at, or those at the high end
+    ∷ answered (readOf nine (0xE0 ∷ 0x88 ∷ []) (0xAA ∷ []))  -- the first spare bit alone looked at, or the last
     ∷ answered (encodeOf sheetH (0x12 ∷ []) (0xAA ∷ []))  -- a message's spare bits taken from n on, not from k; the output written beside 12
     ∷ answered (readOf sheetH (0xD0 ∷ []) (0xAA ∷ []))  -- the message taken from the low places; a bit at the high end taken for spare; every word refused
     ∷ answered (readOf sheetH (0x50 ∷ []) (0xAA ∷ []))  -- the output written beside 14

@@ -39,6 +39,6 @@ byteOf weight mask j = total 8 (λ i. coefficient (j * 8 + i) mask * weight (j *
 unfoldable pub bytesOf : (ℕ → ℕ) → ℕ → ℕ → List ℕ
 bytesOf weight n mask = map (byteOf weight mask) (upTo (bytesFor n))
 
--- the places from n on in the bytes that n places take
+-- the places from n on in the bytes that n places take. "A word's spare bits are then the low bits of its last byte." (2026-01)
 unfoldable pub spare : (ℕ → ℕ) → ℕ → List ℕ → Bool
 spare weight n bytes = some (λ i. eqb (place weight bytes (n + i)) 1) (upTo (bytesFor n * 8 - n))

@@ -1,7 +1,8 @@
--- Four lane_sums of a word put together: a strip that starts b places on counts ω^(b by) times.
+-- The sums of a word's four lanes put together by Horner's rule: the place in a lane is one after that in the lane below it, so that its
+-- lane's sum counts ω^by times.
 --
---   run-lt, strip-lt      sums of powers are elements
---   run-split, horner     the sum over 4 b places by those over b
+--   run-lt, lane-lt       sums of powers are elements
+--   horner                the sum over 4 b places by those over the b columns of each lane
 --   sum-lt, valued        the value, as the code puts it together
 --   run-below             over all places of a mask it is the mask's value
 use mathlib.Core.Path.{_≡_, sym, ap, ap₂, _∙_, subst}

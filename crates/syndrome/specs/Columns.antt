@@ -36,6 +36,7 @@ pub record Columned (b : ℕ) (w col : List ℕ) : Type 0 where
 pub record Summable (b s by : ℕ) (col e : List ℕ) : Type 0 where
   pub powered : Powered s e
   pub by-lt : by < 2 ^ s - 1
+  -- n is at most 2^s - 1, and 4 b is n rounded up to a multiple of 8
   pub b-le : 4 * b ≤ 2 ^ s + 6
   pub even : b % 2 ≡ 0
   pub long : b ≤ length col

@@ -2,7 +2,7 @@
 use Prim.Native.Nat.{_-_}
 use native.Mathlib.Omega.{arith}
 use lib.ListN.{length}
-use Rattle.codeword.proofs.Spare.{some-byte, spare-few, spare-le, message-tested}
+use Rattle.codeword.proofs.Spare.{some-byte, places-fit, spare-le, message-tested}
 use Rattle.codeword.proofs.layout.spare_message.Statement.{statement}
 use Rattle.codeword.proofs.layout.spare_message.Tie as tie
 
@@ -13,7 +13,7 @@ mul-spare : tie.Need-mul-spare
 mul-spare c = let p = c .pre in omega (arith, p .2, spare-le (c .args .n) (c .args .bytes .now) (p .0) (p .1))
 
 sub-spare : tie.Need-sub-spare
-sub-spare c = spare-few (c .args .n) (c .args .bytes .now) (c .pre .0) (c .pre .1)
+sub-spare c = places-fit (c .args .n) (c .args .bytes .now) (c .pre .0) (c .pre .1)
 
 shared-slice-read-result : tie.Need-shared-slice-read-result
 shared-slice-read-result c = let p = c .before .pre in omega (arith, some-byte (c .before .args .n) (c .before .args .bytes .now) (p .0) (p .1))

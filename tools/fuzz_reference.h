@@ -18,45 +18,43 @@ static void insist(int holds, const char *what) {
     }
 }
 
-/* ---- words in bytes. Document 02: "place i of a word has weight 2^(7 - i mod 8) in byte i div 8. A word's spare bits are then the
- * low bits of its last byte." */
+/* ---- words and messages in bytes */
+typedef uint8_t weight_of(int place);
+
+/* Document 02: "place i of a word has weight 2^(7 - i mod 8) in byte i div 8." */
 static uint8_t word_weight(int place) { return (uint8_t)(1 << (7 - place % 8)); }
 
-static word_t word_of(const uint8_t *bytes, int n) {
+/* Document 01, which 02 keeps for messages: "place i has weight 2^(i mod 8) in byte i div 8". */
+static uint8_t message_weight(int place) { return (uint8_t)(1 << place % 8); }
+
+static word_t mask_in(const uint8_t *bytes, int places, weight_of weight) {
     word_t w = 0;
-    for (int i = 0; i < n; i++)
-        if (bytes[i / 8] & word_weight(i)) w |= (word_t)1 << i;
+    for (int i = 0; i < places; i++)
+        if (bytes[i / 8] & weight(i)) w |= (word_t)1 << i;
     return w;
 }
 
-static void put_word(word_t w, int n, uint8_t *bytes) {
-    memset(bytes, 0, (size_t)(n + 7) / 8);
-    for (int i = 0; i < n; i++)
-        if (w >> i & 1) bytes[i / 8] |= word_weight(i);
+static void put_mask(word_t w, int places, weight_of weight, uint8_t *bytes) {
+    memset(bytes, 0, (size_t)(places + 7) / 8);
+    for (int i = 0; i < places; i++)
+        if (w >> i & 1) bytes[i / 8] |= weight(i);
 }
 
+static word_t word_of(const uint8_t *bytes, int n) { return mask_in(bytes, n, word_weight); }
+
+static word_t message_of(const uint8_t *bytes, int k) { return mask_in(bytes, k, message_weight); }
+
+static void put_word(word_t w, int n, uint8_t *bytes) { put_mask(w, n, word_weight, bytes); }
+
+static void put_message(word_t m, int k, uint8_t *bytes) { put_mask(m, k, message_weight, bytes); }
+
+/* Document 02: "A word's spare bits are then the low bits of its last byte." */
 static int spare_in_word(const uint8_t *bytes, int n) {
     int low_bits = (8 - n % 8) % 8;
     return (bytes[(n - 1) / 8] & ((1 << low_bits) - 1)) != 0;
 }
 
-/* ---- messages in bytes. Document 01: "place i has weight 2^(i mod 8) in byte i div 8". A message's spare bits are then the high
- * bits of its last byte. */
-static uint8_t message_weight(int place) { return (uint8_t)(1 << place % 8); }
-
-static word_t message_of(const uint8_t *bytes, int k) {
-    word_t m = 0;
-    for (int i = 0; i < k; i++)
-        if (bytes[i / 8] & message_weight(i)) m |= (word_t)1 << i;
-    return m;
-}
-
-static void put_message(word_t m, int k, uint8_t *bytes) {
-    memset(bytes, 0, (size_t)(k + 7) / 8);
-    for (int i = 0; i < k; i++)
-        if (m >> i & 1) bytes[i / 8] |= message_weight(i);
-}
-
+/* A message's are then the high bits. */
 static int spare_in_message(const uint8_t *bytes, int k) {
     return k % 8 != 0 && bytes[k / 8] >> k % 8 != 0;
 }

@@ -1,2 +1,3 @@
 pub mod Factor
 pub mod Bits
+pub mod Lanes

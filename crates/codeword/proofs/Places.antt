@@ -35,6 +35,7 @@ use Rattle.cyclic.proofs.Places.{coefficient-above, same-places}
 use Rattle.document.specs.Layout.{wordWeight, messageWeight, bytesFor, place, maskOf, byteOf, bytesOf, spare}
 use Rattle.document.proofs.Stated.{tabulated-at, tabulated-length}
 use Rattle.binary.specs.Bits.{Holds}
+use Rattle.binary.specs.Lanes.{inLanes}
 use Rattle.codeword.specs.Place.{Put, placesOf, fourPlaces}
 use Rattle.binary.proofs.Digits.{put-same, put-other, sum-at, sum-lt}
 
@@ -318,7 +319,7 @@ half-place word i j m h {x} q =
 pub four-are : (word : List ℕ) (i : ℕ) → i % 4 ≡ 0
     → ((bitAnd (half word i) 1 * 65536 + bitAnd (half word i / 2) 1) * 65536 + bitAnd (half word i / 4) 1) * 65536 + bitAnd (half word i / 8) 1
     ≡ fourPlaces wordWeight word i
-unfolding fourPlaces total
+unfolding fourPlaces inLanes total
 four-are word i m =
     let b : ℕ = getD word (i / 8) 0 in
     let p : ℕ = 4 - i % 8 in

@@ -5,14 +5,15 @@
 --   Binary w               each entry is 0 or 1
 --   Packed weight w out    each place of the bytes is the entry of w
 --   placesOf word          all places of a word's bytes, spare ones too
---   fourPlaces weight bytes i     places i to i + 3, 16 bits apart
+--   fourPlaces weight bytes i     places i to i + 3, in lanes
 use mathlib.Core.Path.{_≡_}
 use mathlib.Core.Logic.{_≢_}
 use mathlib.Core.List.{List, map}
-use Prim.Native.Nat.{ℕ, _+_, _*_, _/_, _^_, _≤_, _<_}
+use Prim.Native.Nat.{ℕ, _+_, _*_, _/_, _≤_, _<_}
 use lib.ListN.{length, getD}
-use Rattle.field.specs.Search.{upTo, total}
+use Rattle.field.specs.Search.{upTo}
 use Rattle.document.specs.Layout.{wordWeight, place}
+use Rattle.binary.specs.Lanes.{inLanes}
 
 pub record Put (weight : ℕ → ℕ) (i bit : ℕ) (old new : List ℕ) : Type 0 where
   pub long : length new ≡ length old
@@ -35,4 +36,4 @@ unfoldable pub placesOf : List ℕ → List ℕ
 placesOf word = map (place wordWeight word) (upTo (length word * 8))
 
 unfoldable pub fourPlaces : (ℕ → ℕ) → List ℕ → ℕ → ℕ
-fourPlaces weight bytes i = total 4 (λ j. place weight bytes (i + j) * 2 ^ (16 * j))
+fourPlaces weight bytes i = inLanes (λ j. place weight bytes (i + j))

@@ -14,7 +14,7 @@ pub fn word_place(bytes: &[u8], i: usize) -> u8
 }
 
 // Places i to i + 3 of a word, 16 bits apart in one number, place i lowest: half a byte at once.
-pub fn word_places(bytes: &[u8], i: usize) -> u64
+pub fn four_word_places(bytes: &[u8], i: usize) -> u64
     requires { ⌜ (i / 8 < length (now bytes)) × (i % 4 ≡ 0) ⌝ }
     ensures { λ r. ⌜ r ≡ fourPlaces wordWeight (now (bytes .entry)) i ⌝ }
 {

@@ -26,7 +26,7 @@ use Rattle.locator.specs.Terms.{lanes, termSum, Logged}
 use Rattle.field.proofs.Exponents.{power-mod}
 use Rattle.locator.proofs.Residue.{power-zero, residue, residue-z, residue-s}
 use Rattle.locator.proofs.TermSums.{sum-z, sum-s, sum-ext}
-use Rattle.syndrome.specs.Lanes.{lane}
+use Rattle.binary.specs.Lanes.{lane}
 use Rattle.syndrome.proofs.Lanes.{lane-add}
 use Rattle.locator.proofs.Lanes.{lane-mask}
 

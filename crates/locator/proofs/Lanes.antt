@@ -11,7 +11,7 @@ use native.Mathlib.Omega.{arith}
 use Rattle.field.specs.Search.{total}
 use Rattle.field.specs.Mask.{coefficient}
 use Rattle.field.proofs.Xor.{digit-lt}
-use Rattle.syndrome.specs.Lanes.{inLanes, lane}
+use Rattle.binary.specs.Lanes.{inLanes, lane}
 use Rattle.syndrome.proofs.Lanes.{lane-times}
 use Rattle.locator.specs.Terms.{lanes}
 

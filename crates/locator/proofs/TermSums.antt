@@ -25,7 +25,7 @@ use Rattle.field.specs.Field.{Degree, ω, fieldPower}
 use Rattle.field.proofs.Xor.{⊕-assoc, ⊕-self, ⊕-zero-l, ⊕-zero-r}
 use Rattle.field.proofs.Primitive.{Degree-bounds}
 use Rattle.field.proofs.Numbers.{power-lt}
-use Rattle.syndrome.specs.Lanes.{inLanes}
+use Rattle.binary.specs.Lanes.{inLanes}
 use Rattle.locator.specs.Terms.{lanes, termSum, vanishes, aloneAt, vanishesAlone, Laned}
 
 pub sum-z : (s : ℕ) (lg st : List ℕ) (κ : ℕ → ℕ) (i : ℕ) → termSum s lg st κ i 0 ≡ 0

@@ -36,7 +36,7 @@ use Rattle.poly.specs.Slice.{Short, series}
 use Rattle.locator.specs.Terms.{lanes, termSum, vanishes, Logged, TermsListable, TermsListed}
 use Rattle.locator.proofs.Residue.{power-zero, residue, residue-high, divides-residues}
 use Rattle.locator.proofs.TermSums.{sum-z, sum-s, weight-fits}
-use Rattle.syndrome.specs.Lanes.{inLanes, lane}
+use Rattle.binary.specs.Lanes.{inLanes, lane}
 use Rattle.syndrome.proofs.Lanes.{lane-zero, lanes-null}
 use Rattle.locator.proofs.Lanes.{lanes-le, lane-low}
 use Rattle.locator.proofs.Entries.{Entry, LaneSum, listed-start, listed-more, word-start, word-more}

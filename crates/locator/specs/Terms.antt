@@ -26,7 +26,7 @@ use Rattle.field.proofs.Elements.{GF, gen}
 use Rattle.cyclic.proofs.Lift.{lift}
 use Rattle.binary.specs.Factor.{Modulus}
 use Rattle.field.specs.Tables.{Powered}
-use Rattle.syndrome.specs.Lanes.{inLanes}
+use Rattle.binary.specs.Lanes.{inLanes}
 use Rattle.poly.specs.Slice.{Small, Short, series}
 
 unfoldable pub lanes : ℕ → ℕ

@@ -22,7 +22,7 @@ use Rattle.field.proofs.Primitive.{Degree-bounds}
 use Rattle.field.specs.Tables.{Powered}
 use Rattle.field.proofs.Numbers.{power-lt}
 use Rattle.field.proofs.Exponents.{power-folded}
-use Rattle.syndrome.specs.Lanes.{inLanes, lane}
+use Rattle.binary.specs.Lanes.{inLanes, lane}
 use Rattle.document.specs.Layout.{wordWeight, place}
 use Rattle.codeword.specs.Place.{placesOf, fourPlaces}
 use Rattle.codeword.proofs.Places.{places-length, places-at}

@@ -19,7 +19,7 @@ use Rattle.field.proofs.Xor.{digit, ⊕-assoc, ⊕-lt, ⊕-swap4, ⊕-zero-r}
 use Rattle.field.proofs.Elements.{GF, el-inj, el-add, el-mul}
 use Rattle.field.proofs.Numbers.{power-lt, power-add, multiply-lt, multiply-zero}
 use Rattle.binary.specs.Bits.{Holds}
-use Rattle.syndrome.specs.Lanes.{lane}
+use Rattle.binary.specs.Lanes.{lane}
 use Rattle.syndrome.specs.Sums.{sumBelow}
 use Rattle.syndrome.specs.Columns.{runSum, Summable, LaneSums, Valued}
 use Rattle.syndrome.proofs.Columning.{run-z, run-s}

@@ -13,7 +13,7 @@ use lib.Bits.{xor-mod}
 use Rattle.field.specs.Search.{total}
 use Rattle.field.specs.Mask.{_⊕_}
 use Rattle.field.proofs.Xor.{digit, ⊕-shr}
-use Rattle.syndrome.specs.Lanes.{inLanes, lane}
+use Rattle.binary.specs.Lanes.{inLanes, lane}
 
 pub spaced-le : (h : ℕ → ℕ) → ((j : ℕ) → h j < 2) → inLanes h ≤ inLanes (λ j. 1)
 unfolding inLanes total

@@ -14,7 +14,7 @@ use lib.ListN.{length, getD}
 use Rattle.field.specs.Mask.{_⊕_}
 use Rattle.field.specs.Field.{ω, fieldPower}
 use Rattle.field.specs.Tables.{Powered}
-use Rattle.syndrome.specs.Lanes.{inLanes, lane}
+use Rattle.binary.specs.Lanes.{inLanes, lane}
 
 unfoldable pub runSum : (h p : ℕ → ℕ) → ℕ → ℕ
 runSum h p zero = 0

@@ -6,7 +6,7 @@ ghost use lib.ListN.{length};
 ghost use Rattle.field.specs.Tables.{Tables};
 ghost use Rattle.codeword.specs.Place.{placesOf};
 ghost use Rattle.syndrome.specs.Columns.{Columnable, Columned, Summable, LaneSums, Valued};
-use codeword::layout::word_places;
+use codeword::layout::four_word_places;
 use field::exponent::fold;
 use field::exponent::index;
 use field::logarithm::scaled;
@@ -18,8 +18,8 @@ pub fn fill_columns(word: &[u8], width: usize, columns: &mut [u64])
 {
     let mut i: usize = 0;
     while i < width {
-        columns[i] = word_places(word, 4 * i);
-        columns[i + 1] = word_places(word, 4 * i + 4);
+        columns[i] = four_word_places(word, 4 * i);
+        columns[i + 1] = four_word_places(word, 4 * i + 4);
         i = i + 2;
     }
 }

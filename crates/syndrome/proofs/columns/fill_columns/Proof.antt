@@ -18,11 +18,11 @@ abbrev μ-loop : tie.MeasureT-loop
 loop-holds : tie.Need-loop-holds Inv-loop μ-loop
 loop-holds c = (c .before .before .pre .0, c .before .before .pre .1, refl, omega arith, refl, columning-start)
 
-mul-word-places : tie.Need-mul-word-places Inv-loop μ-loop
-mul-word-places c = let v = c .before .loop .inv in omega (arith, v .0 .few, v .3)
+mul-four-word-places : tie.Need-mul-four-word-places Inv-loop μ-loop
+mul-four-word-places c = let v = c .before .loop .inv in omega (arith, v .0 .few, v .3)
 
-word-places-requires : tie.Need-word-places-requires Inv-loop μ-loop
-word-places-requires c κs = let v = c .before .loop .inv in (places-in (c .before .before .before .before .args .word .now) (v .0) (c .loop-test .taken), omega arith)
+four-word-places-requires : tie.Need-four-word-places-requires Inv-loop μ-loop
+four-word-places-requires c κs = let v = c .before .loop .inv in (places-in (c .before .before .before .before .args .word .now) (v .0) (c .loop-test .taken), omega arith)
 
 mul-columns : tie.Need-mul-columns Inv-loop μ-loop
 mul-columns c = let v = c .before .before .loop .inv in omega (arith, v .0 .few, v .3)
@@ -30,14 +30,14 @@ mul-columns c = let v = c .before .before .loop .inv in omega (arith, v .0 .few,
 slice-write-columns : tie.Need-slice-write-columns Inv-loop μ-loop
 slice-write-columns c = let v = c .before .before .loop .inv in omega (arith, v .1, v .2, c .before .loop-test .taken)
 
-mul-word-places-2 : tie.Need-mul-word-places-2 Inv-loop μ-loop
-mul-word-places-2 c = let v = c .before .before .loop .inv in omega (arith, v .0 .few, v .3)
+mul-four-word-places-2 : tie.Need-mul-four-word-places-2 Inv-loop μ-loop
+mul-four-word-places-2 c = let v = c .before .before .loop .inv in omega (arith, v .0 .few, v .3)
 
-add-word-places : tie.Need-add-word-places Inv-loop μ-loop
-add-word-places c = let v = c .before .before .loop .inv in omega (arith, v .0 .few, v .3)
+add-four-word-places : tie.Need-add-four-word-places Inv-loop μ-loop
+add-four-word-places c = let v = c .before .before .loop .inv in omega (arith, v .0 .few, v .3)
 
-word-places-requires-2 : tie.Need-word-places-requires-2 Inv-loop μ-loop
-word-places-requires-2 c κs =
+four-word-places-requires-2 : tie.Need-four-word-places-requires-2 Inv-loop μ-loop
+four-word-places-requires-2 c κs =
     let v = c .before .before .loop .inv in
     let t = c .before .loop-test .taken in
     (omega (arith, places-in {i = c .before .before .loop .i + 1} (c .before .before .before .before .before .args .word .now) (v .0) (omega (arith, v .0 .even, v .4, t))), omega arith)
@@ -66,7 +66,7 @@ loop-again c =
       simp length-set (v .2),
       omega (arith, v .0 .even, v .4, t),
       omega (arith, v .4),
-      columning-two (c .before .before .before .before .before .before .args .word .now) (v .0) (omega (arith, v .0 .even, v .4, t)) (omega (arith, v .0 .even, v .1, v .2, v .4, t)) (c .before .word-places .ensures) (c .word-places2 .ensures) (v .5),
+      columning-two (c .before .before .before .before .before .before .args .word .now) (v .0) (omega (arith, v .0 .even, v .4, t)) (omega (arith, v .0 .even, v .1, v .2, v .4, t)) (c .before .four-word-places .ensures) (c .four-word-places2 .ensures) (v .5),
     )
 
 same-length : tie.Need-same-length Inv-loop μ-loop
@@ -82,13 +82,13 @@ fill-columns-spec =
     Inv-loop
     μ-loop
     loop-holds
-    mul-word-places
-    word-places-requires
+    mul-four-word-places
+    four-word-places-requires
     mul-columns
     slice-write-columns
-    mul-word-places-2
-    add-word-places
-    word-places-requires-2
+    mul-four-word-places-2
+    add-four-word-places
+    four-word-places-requires-2
     add-columns
     mul-columns-2
     slice-write-columns-2

@@ -1,10 +1,10 @@
--- `codeword::layout::word_places` meets its contract: half a byte, bit by bit.
+-- `codeword::layout::four_word_places` meets its contract: half a byte, bit by bit.
 use Prim.Native.Nat.{ℕ, _/_}
 use native.Mathlib.Omega.{arith}
 use Rattle.codeword.proofs.Places.{bit-lt, half, four-are}
 use borrow.Author.Needs.{needs}
-use Rattle.codeword.proofs.layout.word_places.Statement.{statement}
-use Rattle.codeword.proofs.layout.word_places.Tie as tie
+use Rattle.codeword.proofs.layout.four_word_places.Statement.{statement}
+use Rattle.codeword.proofs.layout.four_word_places.Tie as tie
 
 shared-slice-read-half : tie.Need-shared-slice-read-half
 shared-slice-read-half c = search needs
@@ -39,8 +39,8 @@ add-result-3 c = let h : ℕ = half (c .before .args .bytes .now) (c .before .ar
 returns : tie.Need-returns
 returns c = four-are (c .before .args .bytes .now) (c .before .args .i) (c .before .pre .1)
 
-pub word-places-spec : {M : Type 1} → statement M
-word-places-spec =
+pub four-word-places-spec : {M : Type 1} → statement M
+four-word-places-spec =
     tie.close
     (tie.spec
     shared-slice-read-half

@@ -2,6 +2,7 @@
 --
 --   coefficient-or, coefficient-and      of a union and a meet
 --   digit-low                of what is left modulo a power of two
+--   shift-at, shift-low      the coefficients of a mask times x^at
 --   pow-same, pow-other, digit-same, digit-other      the digits of a power of two, and of a digit times it
 --   below-pow                a number whose digits are 0 from m on is below 2^m
 --   put-same, put-other      a byte with digit p cleared and then set to x
@@ -10,7 +11,7 @@ use mathlib.Core.Path.{_≡_, refl, sym, ap, ap₂, _∙_}
 use mathlib.Core.Logic.{_≢_}
 use mathlib.Core.Bool.{Bool}
 use Prim.Native.Nat.{ℕ, zero, suc, _+_, _-_, _*_, _/_, _%_, _^_, _≤_, _<_, min, max}
-use native.Mathlib.Nat.{div-eq-of-lt, div-self, pow-suc, mul-mod-left, one-mul, zero-mul, add-zero, div-lt-iff-lt-mul}
+use native.Mathlib.Nat.{mul-assoc, div-eq-of-lt, div-self, pow-suc, mul-mod-left, one-mul, zero-mul, add-zero, div-lt-iff-lt-mul}
 use native.Mathlib.Decide.{ℕ-discrete, decLt}
 use native.Mathlib.Omega.{arith}
 use lib.Dec.{eqb}
@@ -40,6 +41,19 @@ pub digit-low : (i m a : ℕ) → i < m → coefficient i (a % 2 ^ m) ≡ coeffi
 digit-low i m a h =
     let e : m ≡ m - i - 1 + 1 + i = omega arith in
     ap (λ (k : ℕ). a % 2 ^ k / 2 ^ i % 2) e ∙ ap (λ (x : ℕ). x % 2) (field a (m - i - 1 + 1) i) ∙ mod-mod-pow (a / 2 ^ i) (m - i - 1) 1
+
+-- ---- a mask times x^at
+pub shift-at : (a at j : ℕ) → coefficient (at + j) (a * 2 ^ at) ≡ coefficient j a
+shift-at a at j = ap (λ (x : ℕ). x % 2) (sym (shr-shr (a * 2 ^ at) at j) ∙ ap (λ (x : ℕ). x / 2 ^ j) (shl-shr a at))
+
+pub shift-low : (a at i : ℕ) → i < at → coefficient i (a * 2 ^ at) ≡ 0
+shift-low a at i h =
+    let e : at ≡ suc (at - i - 1) + i = omega arith in
+    let q : ℕ = 2 ^ (at - i - 1) in
+    ap (λ (k : ℕ). a * 2 ^ k / 2 ^ i % 2) e
+    ∙ ap (λ (x : ℕ). a * x / 2 ^ i % 2) (pow-add 2 (suc (at - i - 1)) i ∙ ap (λ (x : ℕ). x * 2 ^ i) (pow-suc 2 (at - i - 1)))
+    ∙ ap (λ (x : ℕ). x / 2 ^ i % 2) (sym (mul-assoc a (q * 2) (2 ^ i)) ∙ ap (λ (x : ℕ). x * 2 ^ i) (sym (mul-assoc a q 2)))
+    ∙ ap (λ (x : ℕ). x % 2) (shl-shr (a * q * 2) i) ∙ mul-mod-left (a * q) 2
 
 -- ---- a power of two
 pub pow-same : (p : ℕ) → coefficient p (2 ^ p) ≡ 1

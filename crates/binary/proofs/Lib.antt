@@ -1,5 +1,5 @@
 -- Laws, in reading order: degrees, divisors of numbers and of masks, the period, coefficients, power
--- series; then polynomials in slices.
+-- series; then packed polynomials and registers.
 pub mod Degree
 pub mod Coprime
 pub mod CommonFactor
@@ -8,5 +8,8 @@ pub mod Coefficient
 pub mod Series
 pub mod Meaning
 pub mod Digits
-pub mod Sums
-pub mod LongDivision
+pub mod Packing
+pub mod Passing
+pub mod Window
+pub mod Feeding
+pub mod Taking

@@ -31,7 +31,7 @@ use Rattle.binary.proofs.Coprime.{both-yes, both-at, shared, none}
 use Rattle.binary.proofs.MaskPeriod.{one-iff, period-divides, period-pos, period-least as period-before}
 use Rattle.binary.proofs.Coefficient.{combine, combine-s, coefficient-combine, below-is}
 use Rattle.binary.proofs.Series.{register, term-is}
-use Rattle.binary.proofs.Sums.{shift-low}
+use Rattle.binary.proofs.Digits.{shift-low}
 
 is-false : (b : Bool) → ¬ (b ≡ true) → b ≡ false
 is-false true h = absurd (h refl)

@@ -1,3 +1,4 @@
 pub mod Factor
 pub mod Bits
 pub mod Lanes
+pub mod Packed

@@ -1,4 +1,4 @@
-// Polynomials over two elements, as masks and in slices of 0 and 1.
+// Polynomials over two elements, as masks and packed 64 places to a number.
 
 // coprime numbers, and the degree of a mask
 pub mod factor;
@@ -9,5 +9,8 @@ pub mod common;
 // the period of a mask
 pub mod period;
 
-// sums, long division and products in slices
-pub mod bits;
+// polynomials in slices: products, powers of x, places
+pub mod packed;
+
+// the register of a division
+pub mod register;

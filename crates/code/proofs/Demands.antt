@@ -7,6 +7,7 @@
 --   Demand2, demand-2      codewords, encoding and reading out; certificates, and the distance that they yield
 --   Demand3, demand-3      decoding
 --   Request01, request-01      2026-01, highest bit first: how words and messages lie in bytes
+--   Request02, request-02      2026-02, the encoder keeps only a remainder
 -- A record for each demand and for each request, a field for each clause, under the clause's words. Each demand is for every list of bytes
 -- that may be a sheet; x is what it states. The words are in specs/Published.antt and specs/Table.antt, under the documents' sentences. That
 -- the field's masks are the smallest primitive ones is mask-least of field/proofs/Smallest.antt; examples, 13 with a buffer that was not 0
@@ -14,10 +15,10 @@
 use mathlib.Core.Path.{_≡_, refl}
 use mathlib.Core.Logic.{_≢_, _↔_, _⊎_}
 use mathlib.Core.List.{List, [], _∷_, _++_}
-use Prim.Native.Nat.{ℕ, _+_, _-_, _*_, _/_, _%_, _^_, _≤_, _<_, _∣_}
+use Prim.Native.Nat.{ℕ, suc, _+_, _-_, _*_, _/_, _%_, _^_, _≤_, _<_, _∣_}
 use lib.ListN.{length, getD, drop}
 use Rattle.field.specs.Search.{total}
-use Rattle.field.specs.Mask.{coefficient}
+use Rattle.field.specs.Mask.{_⊕_, coefficient, remainder}
 use Rattle.field.specs.Field.{orderOfTwo}
 use Rattle.document.specs.Answer.{returned, refused, firstOf}
 use Rattle.document.specs.Layout.{wordWeight, messageWeight, place, maskOf}
@@ -31,7 +32,7 @@ use Rattle.document.specs.Short.{stated, judgeOf, encodeOf, readOf, decodeOf, l
 use Rattle.document.proofs.Meaning.{differ-count}
 use Rattle.codeword.proofs.Places.{mask-lt, mask-coefficient}
 use Rattle.code.specs.Published.{IsAccepted, SheetRead, Bytes, Word, Message, InDefiningSet, SetSize, ZeroAt}
-use Rattle.code.specs.Published.{HasDegree, Divides, Published, Rounded, WorkingIs, Systematic, WordDecoded}
+use Rattle.code.specs.Published.{HasDegree, Divides, Published, Rounded, WorkingIs, Systematic, WordDecoded, kept}
 use Rattle.code.specs.Table.{SpareBit, NoneNear, sheetTurns, encodeTurns, readTurns, decodeTurns, cardTurns}
 use Rattle.code.specs.Table.{NoneNearSaid, NoCodewordSaid, Answered}
 use Rattle.code.proofs.Tried.{judge-answered, encode-answered, read-answered, decode-answered, card-answered}
@@ -42,6 +43,7 @@ use Rattle.code.proofs.Worded.{word-spare-said, message-spare-said, mas
 use Rattle.code.proofs.Worded.{generator-degree-said, multiple-said, zeros-said}
 use Rattle.code.proofs.Worded.{encodes-said, reads-said, refused-said, certificate-published, accepted-published}
 use Rattle.code.proofs.Worded.{rounded-said, distance-said, working-said, record-said, found-said, decoded-said, none-said, apart-said}
+use Rattle.code.proofs.Kept.{kept-said, encoded-said, clean-said}
 
 module _ (sheet : List ℕ) where
   abbrev x : Stated
@@ -160,6 +162,27 @@ module _ (sheet : List ℕ) where
     -- any two different codewords differ in at least d places
     pub apart : IsAccepted sheet → (c c′ : ℕ) → CodewordOf x c → CodewordOf x c′ → c ≢ c′ → d ≤ differences (x .n) c c′
 
+  -- ---- 2026-02, the encoder keeps only a remainder: of the bits of a mask a, taken in from the highest of so many bits down
+  abbrev m : ℕ
+  m = x .n - k
+
+  abbrev g : ℕ
+  g = generatorOf x
+
+  pub record Request02 : Type 0 where
+    -- nothing at first, and with one bit more the remainder of x·p + bit·x^(n-k), where p was kept
+    pub first : (bits a : ℕ) → kept m g bits a 0 ≡ 0
+    pub bit-in : (bits a j : ℕ) → kept m g bits a (suc j) ≡ remainder m g (kept m g bits a j * 2 ⊕ coefficient (bits - suc j) a * 2 ^ m)
+    -- "after each bit, that of x^(n-k) times the bits taken so far, the last of them as x^0, by the generator"
+    pub after-each-bit : IsAccepted sheet → (bits a j : ℕ) → a < 2 ^ bits → j ≤ bits
+        → kept m g bits a j ≡ remainder m g (a / 2 ^ (bits - j) * 2 ^ m)
+    -- after a message's last bit it is what encoding writes below the message
+    pub written : IsAccepted sheet → (message out : List ℕ) → Message x message → Bytes message → length out ≡ (x .n + 7) / 8
+        → (word : List ℕ) × (encodeOf sheet message out ≡ (returned (0 ∷ []), word))
+        × (wordOf x word % 2 ^ m ≡ kept m g k (maskOf messageWeight k message) k)
+    -- after a word's last place it is 0 exactly for a codeword
+    pub clean : IsAccepted sheet → (word : List ℕ) → CodewordOf x (wordOf x word) ↔ (kept m g (x .n) (wordOf x word) (x .n) ≡ 0)
+
 -- ---- 2026-01, highest bit first: for all bytes; spare bits for a buffer of the right length
 pub record Request01 : Type 0 where
   -- "place i of a word has weight 2^(7 - i mod 8) in byte i div 8"
@@ -231,4 +254,14 @@ request-01 = record {
   word-spare = word-spare-said;
   message-order = λ message i. refl;
   message-spare = message-spare-said;
+}
+
+pub request-02 : (sheet : List ℕ) → Request02 sheet
+unfolding kept
+request-02 sheet = record {
+  first = λ bits a. refl;
+  bit-in = λ bits a j. refl;
+  after-each-bit = kept-said sheet;
+  written = encoded-said sheet;
+  clean = clean-said sheet;
 }

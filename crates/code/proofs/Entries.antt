@@ -156,7 +156,7 @@ module _ {n k s : ℕ} {reps : List ℕ} (u : Usable n k s reps) (x : Stated) (e
             ∙ first-false (11, wrongSize (dimensionOf x) out) _ second
             ∙ first-true (12, spare wordWeight (x .n) word) _ (ap (λ (m : ℕ). spare wordWeight m word) (sym en) ∙ h))
 
-        module _ (c : spare wordWeight n word ≡ false) {w : List ℕ} {r : Bool} (t : RemainderTested n reps word w r) where
+        module _ (c : spare wordWeight n word ≡ false) {r : Bool} (t : RemainderTested n reps word r) where
           third : spare wordWeight (x .n) word ≡ false
           third = ap (λ (m : ℕ). spare wordWeight m word) (sym en) ∙ c
 
@@ -221,7 +221,7 @@ module _ {n k s : ℕ} {reps : List ℕ} (u : Usable n k s reps) (word out : Lis
       pub read-spare : spare wordWeight n word ≡ true → Stating n reps reading (refused 12, out)
       read-spare h = record { is = λ x en er. spare-word u x en er word out a b h }
 
-      module _ (c : spare wordWeight n word ≡ false) {w : List ℕ} {r : Bool} (t : RemainderTested n reps word w r) where
+      module _ (c : spare wordWeight n word ≡ false) {r : Bool} (t : RemainderTested n reps word r) where
         pub read-none : r ≡ true → Stating n reps reading (refused 14, out)
         read-none e = record { is = λ x en er. no-codeword u x en er word out a b c t e }
 

@@ -13,12 +13,11 @@ use Prim.Native.Nat.{ℕ, _+_, _-_, _≤_, _<_}
 use native.Mathlib.Decide.{ℕ-discrete}
 use native.Mathlib.Omega.{arith}
 use lib.Dec.{leb, ltb}
-use lib.ListN.{length, getD, take}
+use lib.ListN.{length, getD, take, replicate, length-replicate, getD-replicate}
 use borrow.Author.Tests.{lt-ltb, le-leb, lt-leb}
 use Rattle.field.specs.Search.{some}
 use Rattle.field.proofs.Search.{some-false}
 use Rattle.binary.specs.Factor.{degree}
-use Rattle.cyclic.proofs.Places.{coefficient-zero}
 use Rattle.document.specs.declared.types.Refusal.{Refusal}
 use Rattle.document.specs.declared.types.Refusal.the-variants.{SheetLength, CodeLength, FieldDegree, Header, Representative}
 use Rattle.document.specs.declared.types.Refusal.the-variants.{NoMessage, Range, CommonFactor, Period, Term, BufferLength, SpareBit}
@@ -33,7 +32,7 @@ use Rattle.document.specs.Entry.{radiusOf}
 use Rattle.document.proofs.Chain.{Quiet}
 use Rattle.document.proofs.Stated.{Counted, counted, odd-to, tabulated-length}
 use Rattle.document.proofs.Acceptance.{judgeBy, judge-number, quiet-of, quiet-rules}
-use Rattle.binary.specs.Bits.{Holds}
+use Rattle.binary.specs.Packed.{packed, placesIn}
 use Rattle.sheet.specs.declared.types.Certificate.{Certificate as CodeCertificate}
 use Rattle.sheet.specs.Stage.{Marks, SetMarked, certificateAs, certificateIn, certificatesIn, RepresentativesRead, CertificatesRead}
 use Rattle.certificate.proofs.Ranges.{L-within}
@@ -42,8 +41,6 @@ use Rattle.certificate.proofs.RulesHeld.{Sound}
 use Rattle.certificate.proofs.Sheets as Sheets
 use Rattle.judging.proofs.Weighing.{stated-certificate}
 use Rattle.codeword.specs.Codewords.{Coded, Usable}
-use Rattle.codeword.proofs.Spreading.{held-binary}
-use Rattle.generator.specs.Building.{Building}
 use Rattle.decoder.specs.Correct.{Given}
 use Rattle.decoder.specs.Decode.{States}
 use Rattle.listing.specs.Accepted.{Rated}
@@ -224,29 +221,31 @@ right {n} {s} {reps} u = some-false _ (length reps) (λ i h. one i h (ℕ-discre
 pub marked : {n s : ℕ} {reps z : List ℕ} {wrong : Bool} → Coded n s reps → SetMarked n reps z wrong → Marks n reps z
 marked u f = f .marks (f .is ∙ right u)
 
-pub clean : {n : ℕ} {w : List ℕ} → Holds 0 w → n ≤ length w → Marks n [] w
+pub clean : {n : ℕ} (m : ℕ) → n ≤ m → Marks n [] (replicate m 0)
 unfolding inSet some
-clean h l = record { long = l; at = λ i q. h .at i ∙ coefficient-zero i }
+clean m l = record {
+  long = omega (arith, length-replicate {A = ℕ} m 0);
+  at = λ i q. getD-replicate {A = ℕ} m i 0 0 (omega arith);
+}
 
-pub page-needs : {n k s working t : ℕ} {reps : List ℕ} {count m : ℕ} {certificates zeros g old : List ℕ}
-    → CardListable n k s working t reps count certificates → Marks n reps zeros → Building n m reps g old → n < length g
+pub page-needs : {n k s working t : ℕ} {reps : List ℕ} {count : ℕ} {certificates zeros g : List ℕ}
+    → CardListable n k s working t reps count certificates → Marks n reps zeros → n < placesIn g
     → Page.Listable n k s working t count certificates zeros g
-page-needs {n} {k} {s} l z b h = record {
+page-needs {n} {k} {s} l z h = record {
   ranges = record {
     most = omega (arith, l .most);
     dimension = l .usable .k-le;
     degree = omega (arith, l .usable .coded .s-is, l .usable .coded .length-of .most);
     marked = z .long;
     held = h;
-    binary = held-binary (b .holds);
   };
   certificates = l .certificates;
   radius-short = l .radius-short;
   working-short = l .working-short;
 }
 
-pub card-listed : {n k s working t : ℕ} {reps : List ℕ} {count m r : ℕ} {certificates zeros g old out out′ : List ℕ}
-    → CardListable n k s working t reps count certificates → Marks n reps zeros → Building n m reps g old
+pub card-listed : {n k s working t : ℕ} {reps : List ℕ} {count r : ℕ} {certificates zeros g out out′ : List ℕ}
+    → CardListable n k s working t reps count certificates → Marks n reps zeros → packed g ≡ generator n reps
     → Page.PageListed n k s working t count certificates zeros g out out′ r
     → CardListed n k s working t reps count certificates out out′ r
 card-listed {n} {zeros = zeros} {g = g} l z b y = record {
@@ -260,6 +259,6 @@ card-listed {n} {zeros = zeros} {g = g} l z b y = record {
     count-is = q .count-is;
     certificate-is = q .certificate-is;
     marks = subst (λ (l : List ℕ). Marks n l zeros) (q .reps-is) z;
-    holds = subst (λ (l : List ℕ). Holds (generator n l) g) (q .reps-is) (b .holds);
+    holds = b ∙ ap (generator n) (q .reps-is);
   });
 }

@@ -16,14 +16,14 @@ use mathlib.Core.Path.{_≡_, refl, sym, ap, _∙_}
 use mathlib.Core.Logic.{_↔_}
 use mathlib.Core.Bool.{Bool, true, false, not}
 use mathlib.Core.List.{List, [], _∷_}
-use Prim.Native.Nat.{ℕ, _+_, _-_, _*_, _%_, _^_, _≤_, _<_}
+use Prim.Native.Nat.{ℕ, _+_, _-_, _*_, _/_, _%_, _^_, _≤_, _<_}
 use native.Mathlib.Omega.{arith}
 use lib.ListN.{length}
 use lib.Pow.{shr-shr}
 use Rattle.algebra.proofs.Lists.{All}
 use Rattle.field.specs.Mask.{coefficient, clmul, remainder}
 use Rattle.field.specs.Field.{fieldPower, orderOfTwo, α}
-use Rattle.cyclic.proofs.Places.{coefficient-above, coefficient-zero}
+use Rattle.cyclic.proofs.Places.{coefficient-above}
 use Rattle.document.specs.Answer.{returned, refused, Conditions}
 use Rattle.document.specs.Layout.{wordWeight, messageWeight, bytesFor, place, maskOf, bytesOf, spare}
 use Rattle.document.specs.Coset.{inSet}
@@ -34,10 +34,10 @@ use Rattle.document.specs.Entry.{generatorOf, wordOf, encodedWord, encodeEntry,
 use Rattle.document.proofs.Theory.{Length}
 use Rattle.document.proofs.Chain.{Quiet}
 use Rattle.document.proofs.Acceptance.{judgeBy, accepted-iff, judge-number}
-use Rattle.document.proofs.Encoding.{multiple-iff, defining-iff, representatives-iff, encode-is-codeword, encode-systematic, encode-checks, encode-lt, message-lt, codeword-is-encoding}
+use Rattle.document.proofs.GeneratorIs.{generator-degree}
+use Rattle.document.proofs.Encoding.{raised-is, multiple-iff, defining-iff, representatives-iff, encode-is-codeword, encode-systematic, encode-checks, encode-lt, message-lt, codeword-is-encoding}
 use Rattle.codeword.proofs.Places.{Weights, word-weights, message-weights, mask-lt, mask-coefficient, for-le, spare-clear, bytes-length, bytes-place, mask-of-bytes, bytes-of-mask}
 use Rattle.codeword.specs.Codewords.{Usable, RemainderTested}
-use Rattle.binary.specs.Bits.{Holds}
 use Rattle.code.specs.Published.{Bytes}
 use Rattle.code.proofs.Accepted.{usable}
 use Rattle.code.proofs.Entries.{encode-accepted, read-accepted, encode-done, read-none, read-done}
@@ -52,9 +52,6 @@ placed-bytes {w} W n c h = record {
   long = bytes-length w n c;
   clear = spare-clear w n (bytesOf w n c) (λ i a b. bytes-place W n c i b ∙ coefficient-above h i a);
 }
-
-no-places : Holds 0 []
-no-places = record { at = λ i. sym (coefficient-zero i) }
 
 module _ (kind : Kind) (sheet : List ℕ) where
   abbrev x : Stated
@@ -126,6 +123,14 @@ module _ (kind : Kind) (sheet : List ℕ) where
     unfolding encodedWord
     encoded-lt message = mask-lt-n (maskOf messageWeight k message) (mask-lt messageWeight k message)
 
+    pub generator-top : g / 2 ^ (n - k) ≡ 1
+    unfolding dimensionOf generatorOf
+    generator-top = generator-degree l (x .representatives)
+
+    pub codeword-raised : (j c : ℕ) → isCodeword (n - k) g (c * 2 ^ j) ≡ isCodeword (n - k) g c
+    unfolding dimensionOf generatorOf
+    codeword-raised j c = raised-is l (x .representatives) j c
+
     -- ---- encoding
     pub encodes : {message : List ℕ} (out : List ℕ) → Message message → length out ≡ bytesFor n
         → (returned (0 ∷ []), codewordOf message) ≡ encodeEntry refusals x message out
@@ -172,9 +177,9 @@ module _ (kind : Kind) (sheet : List ℕ) where
     codeword-representatives c = representatives-iff l (x .representatives) c
 
     -- ---- reading out
-    tested : (word : List ℕ) (r : Bool) → r ≡ not (isCodeword (n - k) g (wordOf x word)) → RemainderTested n (x .representatives) word [] r
+    tested : (word : List ℕ) (r : Bool) → r ≡ not (isCodeword (n - k) g (wordOf x word)) → RemainderTested n (x .representatives) word r
     unfolding dimensionOf generatorOf
-    tested word r q = record { is = q; clear = λ z. no-places }
+    tested word r q = record { is = q }
 
     whole : n - k + k ≡ n
     whole = omega (arith, u .k-le)
@@ -182,7 +187,7 @@ module _ (kind : Kind) (sheet : List ℕ) where
     pub reads : {word : List ℕ} (out : List ℕ) → Word word → length out ≡ bytesFor k → isCodeword (n - k) g (wordOf x word) ≡ true
         → (returned (0 ∷ []), messageIn word) ≡ readEntry refusals x word out
     reads {word} out w b c =
-        read-done u word out (w .long) b (w .clear) {w = []} {r = false} (tested word false (sym (ap not c))) refl
+        read-done u word out (w .long) b (w .clear) {r = false} (tested word false (sym (ap not c))) refl
         (record { is = ap (λ (y : ℕ). bytesOf messageWeight k (messageOf (n - k) (maskOf wordWeight y word))) (sym whole) }) .is x refl refl
         ∙ read-accepted refusals x word out quiet
 
@@ -217,5 +222,5 @@ module _ (kind : Kind) (sheet : List ℕ) where
     pub none-refused : {word : List ℕ} (out : List ℕ) → Word word → length out ≡ bytesFor k → isCodeword (n - k) g (wordOf x word) ≡ false
         → (refused 14, out) ≡ readEntry refusals x word out
     none-refused {word} out w b c =
-        read-none u word out (w .long) b (w .clear) {w = []} {r = true} (tested word true (sym (ap not c))) refl .is x refl refl
+        read-none u word out (w .long) b (w .clear) {r = true} (tested word true (sym (ap not c))) refl .is x refl refl
         ∙ read-accepted refusals x word out quiet

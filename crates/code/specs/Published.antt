@@ -11,14 +11,15 @@
 --   Rule1 .. Rule4, Published      the rules of a certificate
 --   Rounded, WorkingIs             d, and the working certificate with d and t
 --   Systematic, WordDecoded            what encoding and decoding write
+--   kept m g k a j                 what is kept after the highest j of the k bits of a (2026-02)
 -- No contract of an entry cites this file.
 use mathlib.Core.Path.{_≡_}
 use mathlib.Core.Logic.{_≢_, _⊎_}
 use mathlib.Core.List.{List, [], _∷_}
-use Prim.Native.Nat.{ℕ, suc, _+_, _-_, _*_, _/_, _%_, _^_, _≤_, _<_, _∣_}
+use Prim.Native.Nat.{ℕ, zero, suc, _+_, _-_, _*_, _/_, _%_, _^_, _≤_, _<_, _∣_}
 use lib.ListN.{length, getD}
 use Rattle.field.specs.Search.{total}
-use Rattle.field.specs.Mask.{coefficient, remainder}
+use Rattle.field.specs.Mask.{_⊕_, coefficient, remainder}
 use Rattle.field.specs.Field.{fieldPower, orderOfTwo, α}
 use Rattle.document.specs.Answer.{Answer}
 use Rattle.document.specs.Layout.{wordWeight, messageWeight, place, maskOf}
@@ -166,6 +167,12 @@ pub record Systematic (x : Stated) (message word : List ℕ) : Type 0 where
   -- "Places below n - k hold the remainder of x^(n-k)·m(x) by the generator."
   pub low : wordOf x word % 2 ^ (x .n - dimensionOf x)
       ≡ remainder (x .n - dimensionOf x) (generatorOf x) (maskOf messageWeight (dimensionOf x) message * 2 ^ (x .n - dimensionOf x))
+
+-- "take the message bits in, highest first, and keep only a remainder" (2026-02): nothing at first, and with one bit more the remainder
+-- of x·p + bit·x^m, where p was kept, by g, of degree m. That this is what the request says of each bit is `after-each-bit` of Request02.
+unfoldable pub kept : ℕ → ℕ → ℕ → ℕ → ℕ → ℕ
+kept m g k a zero = 0
+kept m g k a (suc j) = remainder m g (kept m g k a j * 2 ⊕ coefficient (k - suc j) a * 2 ^ m)
 
 -- the buffer after decoding, and what is returned
 pub record WordDecoded (x : Stated) (word : List ℕ) (reply : Answer × List ℕ) : Type 0 where

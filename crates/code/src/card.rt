@@ -9,9 +9,11 @@ ghost use Rattle.codeword.specs.Codewords.{Coded};
 ghost use Rattle.code.specs.Stating.{CardListable, CardListed};
 use crate::judged::judge_into;
 use crate::refusal::refusal_number;
+use binary::packed::power_of_x;
 use document::types::Judged;
 use document::types::Refusal;
 use document::types::Reply;
+use generator::generator::times_generator;
 use listing::page::write_accepted;
 use listing::page::write_refused;
 use sheet::cosets::wrong_representative;
@@ -41,19 +43,22 @@ fn card_accepted(
     requires { ⌜ CardListable n k s working t (now representatives) count (now certificates) × (length (now out) ≡ 1024) ⌝ }
     ensures { λ r. ⌜ CardListed n k s working t (now (representatives .entry)) count (now (certificates .entry)) (now (out .entry)) (now (out .exit)) r ⌝ }
 {
-    let mut generator = [0u8; 128];
-    let mut factor = [0u16; 16];
-    let mut bits = [0u8; 144];
-    generator[0] = 1;
-    generator::generator::generator(
+    let mut generator = [0u64; 2];
+    let mut other = [0u64; 2];
+    let mut powers = [0u16; 255];
+    let mut logs = [0u16; 256];
+    let mut zeros = [0u8; 128];
+    power_of_x(&mut generator, 0);
+    times_generator(
         representatives,
         n,
         s,
         &mut generator,
-        &mut factor,
-        &mut bits,
+        &mut other,
+        &mut powers,
+        &mut logs,
     );
-    mark_set(n, s, representatives, &mut bits);
+    mark_set(n, s, representatives, &mut zeros);
     write_accepted(
         n,
         k,
@@ -62,7 +67,7 @@ fn card_accepted(
         t,
         certificates,
         count,
-        &bits,
+        &zeros,
         &generator,
         out,
     )

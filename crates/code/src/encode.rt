@@ -37,10 +37,10 @@ fn encode_accepted(
     if spare_message(k, message) {
         return Reply::Refused(Refusal::SpareBit);
     }
-    let mut generator = [0u8; 128];
-    let mut factor = [0u16; 16];
-    let mut bits = [0u8; 144];
-    generator[0] = 1;
+    let mut feedback = [0u64; 2];
+    let mut register = [0u64; 2];
+    let mut powers = [0u16; 255];
+    let mut logs = [0u16; 256];
     write_codeword(
         representatives,
         n,
@@ -48,9 +48,10 @@ fn encode_accepted(
         s,
         message,
         out,
-        &mut generator,
-        &mut factor,
-        &mut bits,
+        &mut feedback,
+        &mut register,
+        &mut powers,
+        &mut logs,
     );
     Reply::Done(0)
 }

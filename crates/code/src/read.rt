@@ -38,22 +38,24 @@ fn read_accepted(
     if spare_word(n, word) {
         return Reply::Refused(Refusal::SpareBit);
     }
-    let mut generator = [0u8; 128];
-    let mut factor = [0u16; 16];
-    let mut bits = [0u8; 144];
-    generator[0] = 1;
+    let mut feedback = [0u64; 2];
+    let mut register = [0u64; 2];
+    let mut powers = [0u16; 255];
+    let mut logs = [0u16; 256];
     if no_codeword(
         representatives,
         n,
+        k,
         s,
         word,
-        &mut generator,
-        &mut factor,
-        &mut bits,
+        &mut feedback,
+        &mut register,
+        &mut powers,
+        &mut logs,
     ) {
         return Reply::Refused(Refusal::NoCodeword);
     }
-    write_message(word, n - k, k, &mut bits, out);
+    write_message(word, n - k, k, out);
     Reply::Done(0)
 }
 

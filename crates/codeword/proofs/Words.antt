@@ -1,146 +1,287 @@
--- From the parts of a word's journey to the definitions: generator, codeword test, encoding, reading out.
+-- From the parts of a word's journey to the definitions: the generator as feedback, the codeword test, encoding, reading out.
 --
---   lengths-of, checks-is, checks-le, whole      the generator's degree m
---   degree-one, remainder-lt      it is of degree m, and remainders by it have m places
---   tested               the remainder of a word tells whether it is a codeword
---   encoded              message, division, message again: the places of the codeword
---   encoded-bytes, message-read      and packed into bytes
+--   lengths-of, split-long      lengths
 --   for-most             bytes have fewer than eight spare places
---   zeros, fresh         arrays as the entries make them
-use mathlib.Core.Path.{_≡_, refl, sym, ap, _∙_, subst}
-use mathlib.Core.Logic.{_⊎_, inl, inr}
+--   feedback-made        the generator times x^(places - m), without what came up past the last number
+--   fresh                arrays as the entries make them
+--   tested               a word's remainder tells whether it is a codeword
+--   message-places, remainder-places, joint-places      eight places of a message above a remainder
+--   Placing, placing-start, placing-more, placing-end      all places, eight at a time
+--   encoded-bytes        with the remainder of the message, the bytes of its codeword
+--   Reading, reading-start, reading-more, reading-end      the message, place by place
+use mathlib.Core.Path.{_≡_, refl, sym, ap, ap₂, _∙_, subst}
+use mathlib.Core.Logic.{_≢_, _⊎_, inl, inr}
 use mathlib.Core.Bool.{Bool, true, false, not}
 use mathlib.Core.List.{List}
-use Prim.Native.Nat.{ℕ, zero, suc, _+_, _-_, _*_, _/_, _^_, _≤_, _<_}
-use native.Mathlib.Nat.{add-zero, div-one}
+use Prim.Native.Nat.{ℕ, zero, suc, _+_, _-_, _*_, _/_, _%_, _^_, _≤_, _<_}
+use native.Mathlib.Nat.{add-comm, add-mul, add-mul-div-right, div-one, mod-lt, mul-assoc, mul-comm, zero-mul, zero-div}
+use native.Mathlib.Decide.{ℕ-discrete}
 use native.Mathlib.Omega.{arith}
+use lib.Bits.{bitAnd, and-mask}
 use lib.Dec.{eqb}
 use lib.ListN.{length, getD, set, replicate, length-set, length-replicate, getD-replicate, List·getD-eq-default}
-use lib.Pow.{pow-pos, shl-lt}
+use lib.Pow.{pow-pos, pow-add, pow-mono, shl-shr, shr-shr, shr-lt, shr-le, high}
 use lib.Seq.{getD-set-same, getD-set-other}
-use borrow.Author.Tests.{eqb-true}
+use borrow.Author.Tests.{eq-eqb, ne-eqb, eqb-true, eqb-false}
 use Rattle.algebra.proofs.Poly.{le-or-lt}
-use Rattle.field.specs.Mask.{coefficient, remainder}
-use Rattle.cyclic.proofs.Division.{divide}
-use Rattle.cyclic.proofs.Places.{coefficient-zero, coefficient-s}
-use Rattle.document.specs.Layout.{wordWeight, messageWeight, bytesFor, maskOf, bytesOf}
+use Rattle.field.specs.Mask.{coefficient, clmul, remainder}
+use Rattle.field.specs.Field.{Degree}
+use Rattle.field.specs.Tables.{RoundFillable}
+use Rattle.field.proofs.MaskProduct.{clmul-pow}
+use Rattle.cyclic.proofs.Places.{coefficient-zero}
+use Rattle.document.specs.Layout.{wordWeight, messageWeight, bytesFor, place, maskOf, bytesOf}
 use Rattle.document.specs.Coset.{dimension}
 use Rattle.document.specs.Generator.{generator, isCodeword, encodeMask, messageOf}
-use Rattle.document.proofs.Sane.{set-size}
+use Rattle.document.proofs.Theory.{Length, degree}
 use Rattle.document.proofs.GeneratorIs.{generator-degree}
-use Rattle.binary.specs.Bits.{Holds, Divided, Any}
-use Rattle.generator.specs.Building.{Lengths, Building}
-use Rattle.codeword.specs.Place.{Spread, Packed}
-use Rattle.codeword.proofs.Places.{word-weights, message-weights, mask-lt}
-use Rattle.codeword.proofs.Spreading.{spread-part, spread-shifted, packed-is}
-use Rattle.codeword.specs.Codewords.{Coded, Usable, Fresh, RemainderTested, Encoded, CodewordWritten, MessageRead}
+use Rattle.document.proofs.Encoding.{raised-is}
+use Rattle.binary.specs.Packed.{packed, placesIn, Register, Feedback, Taken}
+use Rattle.binary.proofs.Digits.{digit-low}
+use Rattle.binary.proofs.Passing.{packed-none}
+use Rattle.binary.proofs.Feeding.{raised-low}
+use Rattle.generator.specs.Building.{Lengths, RoomWhereSmall, Multiplied}
+use Rattle.generator.proofs.LowPlaces.{clmul-low}
+use Rattle.codeword.specs.Place.{Put, turned, wholeMask}
+use Rattle.codeword.specs.Codewords.{Coded, Usable, Fresh, FeedbackMade, RemainderTested, Encodable, EightOf, PlacesWritten, CodewordWritten, MessageRead}
+use Rattle.codeword.proofs.Places.{word-weights, message-weights, place-is, mask-coefficient, mask-above, bytes-same}
+use Rattle.codeword.proofs.Eight.{turned-digit, whole-is}
 
--- ---- the generator, of degree m
+-- ---- lengths
 pub lengths-of : {n s : ℕ} {reps : List ℕ} → Coded n s reps → Lengths n s
 lengths-of u = record { odd = u .length-of .odd; s-is = u .s-is; small = omega (arith, u .s-is, u .length-of .most) }
 
-pub dimension-le : (n : ℕ) (reps : List ℕ) → dimension n reps ≤ n
-unfolding dimension
-dimension-le n reps = omega arith
-
-module _ {n s : ℕ} {reps : List ℕ} (u : Coded n s reps) {m : ℕ} {g w : List ℕ} (b : Building n m reps g w) where
-  pub checks-is : m ≡ n - dimension n reps
-  checks-is = b .degree-is ∙ sym (set-size n reps)
-
-  pub checks-le : m ≤ n
-  checks-le = omega (arith, checks-is)
-
-  pub whole : {k : ℕ} → k ≡ dimension n reps → m + k ≡ n
-  whole e = omega (arith, checks-is, dimension-le n reps)
-
-  pub degree-one : generator n reps / 2 ^ m ≡ 1
-  degree-one = ap (λ (y : ℕ). generator n reps / 2 ^ y) checks-is ∙ generator-degree (u .length-of) reps
-
-  remainder-lt : (c : ℕ) → remainder m (generator n reps) c < 2 ^ m
-  remainder-lt c = divide m (generator n reps) degree-one c .small
-
-  -- ---- the test
-  codeword-is : (c : ℕ) → isCodeword (n - dimension n reps) (generator n reps) c ≡ eqb (remainder m (generator n reps) c) 0
-  unfolding isCodeword
-  codeword-is c = ap (λ (x : ℕ). eqb (remainder x (generator n reps) c) 0) (sym checks-is)
-
-  pub tested : {word w₁ w₂ : List ℕ} {r : Bool} → Spread wordWeight 0 0 n word w w₁ → Divided n m g w₁ w₂ → Any m w₂ r
-      → RemainderTested n reps word w₂ r
-  tested {word} {w₁} {w₂} {r} a d y =
-      let c : ℕ = maskOf wordWeight n word in
-      let h : Holds c w₁ = subst (λ (x : ℕ). Holds x w₁) (div-one c) (spread-part {from = 0} {count = n} (omega arith) a (b .clear)) in
-      let held = d .holds (b .holds) degree-one h (mask-lt wordWeight n word) in
-      let is = y .holds held (remainder-lt c) in
-      record {
-        is = is ∙ ap not (sym (codeword-is c));
-        clear = λ e. subst (λ (x : ℕ). Holds x w₂) (eqb-true (remainder m (generator n reps) c) 0 (not-not _ (sym is ∙ e))) held;
-      }
-    where
-      not-not : (b : Bool) → not b ≡ false → b ≡ true
-      not-not true e = refl
-      not-not false e = sym e
-
--- ---- encoding
-pub encoded : {n k m : ℕ} {message g w w₁ w₂ w₃ : List ℕ} → m + k ≡ n → Spread messageWeight 0 m k message w w₁ → Divided n m g w₁ w₂
-    → Spread messageWeight 0 m k message w₂ w₃ → Encoded n k m message g w w₃
-unfolding encodeMask
-encoded {n} {k} {m} {message} {g} {w} {w₁} {w₂} {w₃} e a d b = record {
-  holds = λ {a = f} hf q z.
-      let c : ℕ = maskOf messageWeight k message in
-      let order : k + m ≡ n = omega arith in
-      let h : Holds (c * 2 ^ m) w₁ = subst (λ (x : ℕ). Holds x w₁) (add-zero (c * 2 ^ m)) (spread-shifted a z (pow-pos m)) in
-      let lt : c * 2 ^ m < 2 ^ n = subst (λ (x : ℕ). c * 2 ^ m < 2 ^ x) order (shl-lt k m (mask-lt messageWeight k message)) in
-      spread-shifted b (d .holds hf q h lt) (divide m f q (c * 2 ^ m) .small);
-}
-
-module _ {n k s m : ℕ} {reps message g w w₁ : List ℕ} (u : Usable n k s reps) (b : Building n m reps g w) (c : Encoded n k m message g w w₁) where
-  pub encoded-holds : Holds (encodeMask m (generator n reps) (maskOf messageWeight k message)) w₁
-  encoded-holds = c .holds (b .holds) (degree-one (u .coded) b) (b .clear)
-
-  pub encoded-bytes : {out : List ℕ} → Packed wordWeight w₁ out → length out ≡ bytesFor n → ((i : ℕ) → getD out i 0 < 256)
-      → CodewordWritten n k reps message out
-  encoded-bytes p long bytes = record {
-    is = packed-is word-weights n p encoded-holds long bytes
-        ∙ ap (λ (x : ℕ). bytesOf wordWeight n (encodeMask x (generator n reps) (maskOf messageWeight k message))) (checks-is (u .coded) b);
-  }
-
--- ---- reading out
-pub message-read : {m k : ℕ} {word w w₁ out : List ℕ} → Spread wordWeight m 0 k word w w₁ → Packed messageWeight w₁ out → Holds 0 w
-    → length out ≡ bytesFor k → ((i : ℕ) → getD out i 0 < 256) → MessageRead m k word out
-unfolding messageOf
-message-read {m} {k} {word} a p z long bytes = record { is = packed-is message-weights k p (spread-part refl a z) long bytes }
-
--- ---- arrays
-pub zeros : (m : ℕ) → Holds 0 (replicate m 0)
-zeros m = record { at = λ i. go i (le-or-lt m i) ∙ sym (coefficient-zero i) }
-  where
-    go : (i : ℕ) → (m ≤ i) ⊎ (i < m) → _≡_ {A = ℕ} (getD (replicate m 0) i 0) 0
-    go i (inl h) = List·getD-eq-default (replicate m 0) 0 (omega (arith, length-replicate {A = ℕ} m 0))
-    go i (inr h) = getD-replicate {A = ℕ} m i 0 0 h
-
-unit : (m : ℕ) → Holds 1 (set (replicate (suc m) 0) 0 1)
-unit m = record { at = go }
-  where
-    go : (i : ℕ) → _≡_ {A = ℕ} (getD (set (replicate (suc m) 0) 0 1) i 0) (coefficient i 1)
-    go zero = getD-set-same (replicate (suc m) 0) 0 1 0 (omega (arith, length-replicate {A = ℕ} (suc m) 0))
-    go (suc i) =
-        getD-set-other (replicate (suc m) 0) 0 (suc i) 1 0 (λ e. omega arith) ∙ zeros (suc m) .at (suc i) ∙ coefficient-zero (suc i)
-        ∙ sym (coefficient-s i 1 ∙ coefficient-zero i)
-
-pub fresh : (a b c : ℕ) {n : ℕ} → n ≤ a → 12 < b → n + 14 ≤ c
-    → Fresh n (set (replicate (suc a) 0) 0 1) (replicate b 0) (replicate c 0)
-fresh a b c {n} h k l = record {
-  one = unit a;
-  zero = zeros c;
-  g-long = subst (λ (x : ℕ). n < x) (sym (length-set (replicate (suc a) 0) 0 1 ∙ length-replicate {A = ℕ} (suc a) 0)) (omega arith);
-  p-long = subst (λ (x : ℕ). 12 < x) (sym (length-replicate {A = ℕ} b 0)) k;
-  w-long = subst (λ (x : ℕ). n + 14 ≤ x) (sym (length-replicate {A = ℕ} c 0)) l;
-}
-
--- ---- bytes
 pub for-most : (n : ℕ) → bytesFor n * 8 ≤ n + 7
 unfolding bytesFor
 for-most n = omega arith
 
 pub split-long : (n k : ℕ) {x : ℕ} → k ≤ n → x ≡ bytesFor n → x ≡ bytesFor (n - k + k)
 split-long n k h e = let q : n ≡ n - k + k = omega arith in e ∙ ap bytesFor q
+
+-- ---- the generator as feedback
+module _ (reps f : List ℕ) {n m : ℕ} {f₁ f₂ r₂ : List ℕ} (l : Length n) (em : m ≡ n - dimension n reps) (room : n ≤ placesIn f)
+    (l₁ : length f₁ ≡ length f) (l₂ : length f₂ ≡ length f₁) (pw : packed f₁ ≡ 2 ^ (placesIn f - m) % 2 ^ placesIn f)
+    (t : Multiplied (generator n reps) f₁ f₂ r₂) where
+  held : Register m (generator n reps % 2 ^ m) f₂
+  held =
+      let all : placesIn f ≡ m + (placesIn f - m) = omega (arith, em, room) in
+      record {
+        room = omega (arith, em, l₁, l₂, room);
+        small = mod-lt (generator n reps) (pow-pos m);
+        is = t .is ∙ ap₂ (λ (x y : ℕ). clmul (generator n reps) x % 2 ^ (64 * y)) pw l₁ ∙ clmul-low (generator n reps) (2 ^ (placesIn f - m)) (placesIn f)
+            ∙ ap (λ (x : ℕ). x % 2 ^ placesIn f) (clmul-pow (generator n reps) (placesIn f - m))
+            ∙ ap (λ (x : ℕ). generator n reps * 2 ^ (placesIn f - m) % 2 ^ x) all
+            ∙ raised-low (generator n reps) m (placesIn f - m) ∙ ap (λ (x : ℕ). generator n reps % 2 ^ m * 2 ^ (64 * x - m)) (sym (l₂ ∙ l₁));
+      }
+
+  pub feedback-made : FeedbackMade n reps f₂ r₂
+  feedback-made = record {
+    feedback = record { top = generator-degree l reps; held = subst (λ (d : ℕ). Register d (generator n reps % 2 ^ d) f₂) em held };
+    empty = t .clear;
+  }
+
+-- ---- the test
+not-none : (p k : ℕ) → eqb (p * 2 ^ k) 0 ≡ eqb p 0
+not-none p k = elim (ℕ-discrete p 0) [
+  | yes e ↦ eq-eqb (p * 2 ^ k) 0 (ap (λ (x : ℕ). x * 2 ^ k) e ∙ zero-mul (2 ^ k)) ∙ sym (eq-eqb p 0 e)
+  | no e ↦ ne-eqb (p * 2 ^ k) 0 (λ z. e (sym (shl-shr p k) ∙ ap (λ (x : ℕ). x / 2 ^ k) z ∙ zero-div (2 ^ k))) ∙ sym (ne-eqb p 0 e)
+]
+
+pub tested : {n : ℕ} {reps word f r₀ r : List ℕ} {b : Bool} → Length n → FeedbackMade n reps f r₀
+    → Taken (maskOf wordWeight n word) 0 f r → b ≡ eqb (packed r) 0 → RemainderTested n reps word (not b)
+unfolding isCodeword
+tested {n} {reps} {word} {f} {r₀} {r} {b} l t a e =
+    let m : ℕ = n - dimension n reps in
+    let c : ℕ = maskOf wordWeight n word in
+    let h = a .holds (t .feedback) in
+    record {
+      is = ap not
+          (e ∙ ap (λ (x : ℕ). eqb x 0) (h .is) ∙ not-none (remainder m (generator n reps) (c / 2 ^ 0 * 2 ^ m)) (placesIn r - m)
+          ∙ ap (λ (x : ℕ). isCodeword m (generator n reps) (x * 2 ^ m)) (div-one c) ∙ raised-is l reps m c);
+    }
+
+-- ---- eight places of a message above a remainder
+-- places from i on of p, and above them a
+above : (a m p i : ℕ) → i ≤ m → (a * 2 ^ m + p) / 2 ^ i ≡ a * 2 ^ (m - i) + p / 2 ^ i
+above a m p i h =
+    let e : m ≡ m - i + i = omega arith in
+    ap (λ (y : ℕ). (y + p) / 2 ^ i) (ap (λ (k : ℕ). a * 2 ^ k) e ∙ ap (λ (y : ℕ). a * y) (pow-add 2 (m - i) i) ∙ sym (mul-assoc a (2 ^ (m - i)) (2 ^ i)))
+    ∙ ap (λ (y : ℕ). y / 2 ^ i) (add-comm (a * 2 ^ (m - i) * 2 ^ i) p)
+    ∙ add-mul-div-right p (a * 2 ^ (m - i)) (pow-pos i) ∙ add-comm (p / 2 ^ i) (a * 2 ^ (m - i))
+
+-- what a register holds, from place i on
+from : {m p : ℕ} {r : List ℕ} (i : ℕ) {j : ℕ} → Register m p r → j ≡ placesIn r - m + i → packed r / 2 ^ j ≡ p / 2 ^ i
+from {m} {p} {r} i {j} t e =
+    ap₂ (λ (x y : ℕ). x / 2 ^ y) (t .is) e ∙ sym (shr-shr (p * 2 ^ (placesIn r - m)) (placesIn r - m) i)
+    ∙ ap (λ (x : ℕ). x / 2 ^ i) (shl-shr p (placesIn r - m))
+
+pub message-places : (message : List ℕ) {m i j x : ℕ} {r : List ℕ} → m ≤ i → j ≡ i - m → x ≡ wholeMask messageWeight message / 2 ^ j % 256
+    → EightOf message m r i x
+message-places message {m} {i} {j} {x} {r} h e q = record {
+  small = omega (arith, q);
+  is = λ {p} t.
+      let d : i ≡ m + (i - m) = omega arith in
+      q ∙ ap (λ (k : ℕ). wholeMask messageWeight message / 2 ^ k % 256) e
+      ∙ sym (ap (λ (k : ℕ). (wholeMask messageWeight message * 2 ^ m + p) / 2 ^ k % 256) d
+      ∙ ap (λ (y : ℕ). y % 256)
+      (sym (shr-shr (wholeMask messageWeight message * 2 ^ m + p) m (i - m)) ∙ ap (λ (y : ℕ). y / 2 ^ (i - m)) (high (wholeMask messageWeight message) m (t .small))));
+}
+
+pub remainder-places : (message r : List ℕ) {m i j x : ℕ} → i + 8 ≤ m → j ≡ placesIn r - m + i → x ≡ packed r / 2 ^ j % 256
+    → EightOf message m r i x
+remainder-places message r {m} {i} {j} {x} h e q = record {
+  small = omega (arith, q);
+  is = λ {p} t. q ∙ ap (λ (y : ℕ). y % 256) (from i t e) ∙ low (wholeMask messageWeight message) p;
+}
+  where
+    drop : (y z : ℕ) → (y * 256 + z) % 256 ≡ z % 256
+    drop y z = omega arith
+
+    low : (a p : ℕ) → p / 2 ^ i % 256 ≡ (a * 2 ^ m + p) / 2 ^ i % 256
+    low a p =
+        let d : m - i ≡ m - i - 8 + 8 = omega arith in
+        let u : a * 2 ^ (m - i) ≡ a * 2 ^ (m - i - 8) * 256 =
+        ap (λ (k : ℕ). a * 2 ^ k) d ∙ ap (λ (y : ℕ). a * y) (pow-add 2 (m - i - 8) 8) ∙ sym (mul-assoc a (2 ^ (m - i - 8)) 256) in
+        sym (ap (λ (y : ℕ). y % 256) (above a m p i (omega arith) ∙ ap (λ (y : ℕ). y + p / 2 ^ i) u) ∙ drop (a * 2 ^ (m - i - 8)) (p / 2 ^ i))
+
+pub joint-places : (message r : List ℕ) {m i j low up : ℕ} → i < m → j ≡ placesIn r - m + i → low ≡ packed r / 2 ^ j % 256
+    → up ≡ wholeMask messageWeight message / 2 ^ 0 % 256 → EightOf message m r i (bitAnd (low + up * 2 ^ (m - i) % 2 ^ 64) 255)
+joint-places message r {m} {i} {j} {low} {up} h e ql qu = record {
+  small = omega (arith, and-mask (low + up * 2 ^ (m - i) % 2 ^ 64) 8);
+  is = λ {p} t.
+      and-mask (low + up * 2 ^ (m - i) % 2 ^ 64) 8
+      ∙ ap₂ (λ (y z : ℕ). (y + z * 2 ^ (m - i) % 2 ^ 64) % 256) (ql ∙ ap (λ (y : ℕ). y % 256) (from i t e))
+      (qu ∙ ap (λ (y : ℕ). y % 256) (div-one (wholeMask messageWeight message)))
+      ∙ join (wholeMask messageWeight message) p;
+}
+  where
+    whole : (a k : ℕ) → a % 256 * k + a / 256 * k * 256 ≡ a * k
+    whole a k =
+        let d : a / 256 * k * 256 ≡ a / 256 * 256 * k =
+        mul-assoc (a / 256) k 256 ∙ ap (λ (y : ℕ). a / 256 * y) (mul-comm k 256) ∙ sym (mul-assoc (a / 256) 256 k) in
+        let s : a / 256 * 256 + a % 256 ≡ a = omega arith in
+        let w : (a / 256 * 256 + a % 256) * k ≡ a / 256 * 256 * k + a % 256 * k = add-mul (a / 256 * 256) (a % 256) k in
+        let z : (a / 256 * 256 + a % 256) * k ≡ a * k = ap (λ (y : ℕ). y * k) s in
+        omega arith
+
+    sum : (y b c a : ℕ) → b + c * 256 ≡ a → (y % 256 + b % 2 ^ 64) % 256 ≡ (a + y) % 256
+    sum y b c a e = omega arith
+
+    join : (a p : ℕ) → (p / 2 ^ i % 256 + a % 256 * 2 ^ (m - i) % 2 ^ 64) % 256 ≡ (a * 2 ^ m + p) / 2 ^ i % 256
+    join a p =
+        sum (p / 2 ^ i) (a % 256 * 2 ^ (m - i)) (a / 256 * 2 ^ (m - i)) (a * 2 ^ (m - i)) (whole a (2 ^ (m - i)))
+        ∙ sym (ap (λ (y : ℕ). y % 256) (above a m p i (omega arith)))
+
+-- ---- all places, eight at a time
+pub record Placing (message : List ℕ) (m : ℕ) (r : List ℕ) (j : ℕ) (out : List ℕ) : Type 0 where
+  pub at : {p : ℕ} → Register m p r → (i : ℕ) → i < j * 8 → place wordWeight out i ≡ coefficient i (wholeMask messageWeight message * 2 ^ m + p)
+
+pub placing-start : {message : List ℕ} {m : ℕ} {r out : List ℕ} → Placing message m r 0 out
+placing-start = record { at = λ t i h. absurd (omega arith) }
+
+pub placing-more : {message : List ℕ} {m j i₀ x v : ℕ} {r out : List ℕ} → Placing message m r j out → i₀ ≡ 8 * j → EightOf message m r i₀ x
+    → v ≡ turned x → j < length out → Placing message m r (j + 1) (set out j v)
+placing-more {message} {m} {j} {i₀} {x} {v} {r} {out} t e w q h = record {
+  at = λ {p} u i l. elim (ℕ-discrete (i / 8) j) [
+    | yes s ↦ (let d : i ≡ i₀ + i % 8 = omega arith in
+        place-is word-weights (set out j v) i
+        ∙ ap (coefficient (7 - i % 8)) (ap (λ (k : ℕ). getD (set out j v) k 0) s ∙ getD-set-same out j v 0 h ∙ q)
+        ∙ turned-digit x (i % 8) (omega arith) ∙ ap (coefficient (i % 8)) (w .is u)
+        ∙ digit-low (i % 8) 8 ((wholeMask messageWeight message * 2 ^ m + p) / 2 ^ i₀) (omega arith)
+        ∙ ap (λ (y : ℕ). y % 2) (shr-shr (wholeMask messageWeight message * 2 ^ m + p) i₀ (i % 8))
+        ∙ sym (ap (λ (k : ℕ). coefficient k (wholeMask messageWeight message * 2 ^ m + p)) d))
+    | no s ↦ place-is word-weights (set out j v) i ∙ ap (coefficient (7 - i % 8)) (getD-set-other out j (i / 8) v 0 s)
+        ∙ sym (place-is word-weights out i) ∙ t .at u i (omega arith)
+  ];
+}
+
+pub placing-end : {message : List ℕ} {m j : ℕ} {r out : List ℕ} → length out ≤ j → Placing message m r j out → PlacesWritten message m r out
+placing-end h t = record { at = λ u i l. t .at u i (omega arith) }
+
+pub encoded-bytes : {n k s m : ℕ} {reps message f r₀ r out₀ out : List ℕ} → Usable n k s reps → Encodable n k message out₀ → m ≡ n - k
+    → FeedbackMade n reps f r₀ → Taken (maskOf messageWeight k message) 0 f r → PlacesWritten message m r out → length out ≡ length out₀
+    → ((i : ℕ) → getD out i 0 < 256) → CodewordWritten n k reps message out
+unfolding encodeMask
+encoded-bytes {n} {k} {s} {m} {reps} {message} {f} {r₀} {r} {out₀} {out} u c em t a p long bytes =
+    let c₀ : ℕ = maskOf messageWeight k message in
+    let d : ℕ = n - dimension n reps in
+    let g : ℕ = generator n reps in
+    let is : m ≡ n - dimension n reps = em ∙ ap (λ (x : ℕ). n - x) (u .k-is) in
+    let h : Register (n - dimension n reps) (remainder (n - dimension n reps) (generator n reps) (maskOf messageWeight k message * 2 ^ (n - dimension n reps))) r =
+    subst (λ (x : ℕ). Register (n - dimension n reps) (remainder (n - dimension n reps) (generator n reps) (x * 2 ^ (n - dimension n reps))) r) (div-one (maskOf messageWeight k message))
+    (a .holds (t .feedback)) in
+    let w : wholeMask messageWeight message ≡ maskOf messageWeight k message = whole-is messageWeight k message (c .message-long) (c .no-spare) in
+    let q : PlacesWritten message (n - dimension n reps) r out = subst (λ (x : ℕ). PlacesWritten message x r out) is p in
+    record {
+      is = bytes-same word-weights n (encodeMask (n - dimension n reps) (generator n reps) (maskOf messageWeight k message)) out (long ∙ c .out-long) bytes
+          (λ i b. q .at h i (omega (arith, long, c .out-long))
+          ∙ ap (λ (x : ℕ). coefficient i (x * 2 ^ (n - dimension n reps) + remainder (n - dimension n reps) (generator n reps) (maskOf messageWeight k message * 2 ^ (n - dimension n reps)))) w);
+    }
+
+-- ---- reading out
+pub record Reading (m k : ℕ) (word : List ℕ) (i : ℕ) (out : List ℕ) : Type 0 where
+  pub at : (j : ℕ) → j < i → place messageWeight out j ≡ place wordWeight word (m + j)
+  pub clear : (j : ℕ) → k ≤ j → j < bytesFor k * 8 → place messageWeight out j ≡ 0
+  pub bytes : (j : ℕ) → getD out j 0 < 256
+
+pub reading-start : (out : List ℕ) {m k e : ℕ} {word : List ℕ} → 1 ≤ k → length out ≡ bytesFor k → e ≡ length out - 1 → ((j : ℕ) → getD out j 0 < 256)
+    → Reading m k word 0 (set out e 0)
+unfolding bytesFor
+reading-start out {m} {k} {e} {word} pos long ee small = record {
+  at = λ j h. absurd (omega arith);
+  clear = λ j a b.
+      let s : j / 8 ≡ e = omega arith in
+      place-is message-weights (set out e 0) j
+      ∙ ap (coefficient (j % 8)) (ap (λ (x : ℕ). getD (set out e 0) x 0) s ∙ getD-set-same out e 0 0 (omega arith)) ∙ coefficient-zero (j % 8);
+  bytes = λ j. elim (ℕ-discrete j e) [
+    | yes q ↦ subst (λ (x : ℕ). x < 256) (sym (ap (λ (i : ℕ). getD (set out e 0) i 0) q ∙ getD-set-same out e 0 0 (omega arith))) (omega arith)
+    | no q ↦ subst (λ (x : ℕ). x < 256) (sym (getD-set-other out e j 0 0 q)) (small j)
+  ];
+}
+
+pub reading-more : {m k i at bit : ℕ} {word out out′ : List ℕ} → i < k → at ≡ m + i → bit ≡ place wordWeight word at → Reading m k word i out
+    → Put messageWeight i bit out out′ → ((j : ℕ) → getD out′ j 0 < 256) → Reading m k word (i + 1) out′
+reading-more {m} {k} {i} {at} {bit} {word} {out} {out′} b ea e t p small = record {
+  at = λ j h. elim (ℕ-discrete j i) [
+    | yes q ↦ ap (place messageWeight out′) q ∙ p .here ∙ e ∙ ap (place wordWeight word) (ea ∙ ap (λ (x : ℕ). m + x) (sym q))
+    | no q ↦ p .other j q ∙ t .at j (omega arith)
+  ];
+  clear = λ j a c. p .other j (λ q. omega arith) ∙ t .clear j a c;
+  bytes = small;
+}
+
+pub reading-end : {m k i : ℕ} {word out : List ℕ} → k ≤ i → length out ≡ bytesFor k → Reading m k word i out
+    → MessageRead m k word out
+unfolding messageOf
+reading-end {m} {k} {i} {word} {out} h long t = record {
+  is = bytes-same message-weights k (maskOf wordWeight (m + k) word / 2 ^ m) out long (t .bytes) (λ j b. go j b (le-or-lt k j) ∙ sym (ap (λ (x : ℕ). x % 2) (shr-shr (maskOf wordWeight (m + k) word) m j)));
+}
+  where
+    go : (j : ℕ) → j < bytesFor k * 8 → (k ≤ j) ⊎ (j < k) → place messageWeight out j ≡ coefficient (m + j) (maskOf wordWeight (m + k) word)
+    go j b (inl a) = t .clear j a b ∙ sym (mask-above wordWeight (m + k) word (m + j) (omega arith))
+    go j b (inr a) = t .at j (omega arith) ∙ sym (mask-coefficient wordWeight (m + k) word (m + j) (omega arith))
+
+-- ---- arrays
+none-packed : (w : ℕ) → packed (replicate w 0) ≡ 0
+none-packed w = packed-none (replicate w 0) (λ i. go i (le-or-lt w i))
+  where
+    go : (i : ℕ) → (w ≤ i) ⊎ (i < w) → _≡_ {A = ℕ} (getD (replicate w 0) i 0) 0
+    go i (inl h) = List·getD-eq-default (replicate w 0) 0 (omega (arith, length-replicate {A = ℕ} w 0))
+    go i (inr h) = getD-replicate {A = ℕ} w i 0 0 h
+
+pub fresh : {n s : ℕ} {reps : List ℕ} (w e g : ℕ) → Coded n s reps → 1 ≤ w → n ≤ 64 * w → 64 * w ≤ 65535 → 255 ≤ e → 256 ≤ g
+    → Fresh n s (replicate w 0) (replicate w 0) (replicate e 0) (replicate g 0)
+fresh {n} {s} w e g u some room fits he hg = record {
+  none = none-packed w;
+  empty = none-packed w;
+  room = omega (arith, length-replicate {A = ℕ} w 0);
+  some = omega (arith, length-replicate {A = ℕ} w 0);
+  fits = omega (arith, length-replicate {A = ℕ} w 0);
+  long = refl;
+  tables = record {
+    room = λ h. let small : 2 ^ s ≤ 2 ^ 8 = pow-mono {i = s} {j = 8} h in record {
+      degree = subst Degree (sym (u .s-is)) (degree (u .length-of));
+      e-long = omega (arith, length-replicate {A = ℕ} e 0);
+      g-long = omega (arith, length-replicate {A = ℕ} g 0);
+    };
+  };
+}

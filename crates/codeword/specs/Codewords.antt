@@ -2,23 +2,28 @@
 --
 --   Coded n s reps          a code of length n with these representatives
 --   Usable n k s reps       one that has messages, with its k
---   Fresh n g p w           slices for a code of length n: g holds 1, and w holds 0
---   RemainderTested n reps word w r      r says whether a word is no codeword; w holds 0 where it is one
---   Encodable, Encoded      lengths of message and codeword, and what the codeword's places are
+--   Fresh n s f r e g       slices for a code of length n: f and r hold 0, and e and g have room for tables
+--   FeedbackMade n reps f r f holds the generator as a register's feedback, and r holds 0
+--   RemainderTested n reps word r      r says whether a word is no codeword
+--   Encodable n k message out     lengths of a message without spare bits and of its codeword
+--   EightOf message m r i x       x is eight places from i on of the word that has the message above what the register r holds
+--   PlacesWritten message m r out      the bytes of that word
 --   CodewordWritten n k reps message out      the bytes of a message's codeword
 --   Readable, MessageRead   the same for reading out
 use mathlib.Core.Path.{_≡_}
 use mathlib.Core.Bool.{Bool, false, not}
 use mathlib.Core.List.{List}
-use Prim.Native.Nat.{ℕ, _+_, _-_, _/_, _^_, _≤_, _<_}
+use Prim.Native.Nat.{ℕ, _+_, _-_, _*_, _/_, _%_, _^_, _≤_, _<_}
 use lib.ListN.{length}
 use Rattle.field.specs.Field.{orderOfTwo}
-use Rattle.document.specs.Layout.{wordWeight, messageWeight, bytesFor, maskOf, bytesOf}
+use Rattle.field.specs.Mask.{coefficient}
+use Rattle.document.specs.Layout.{wordWeight, messageWeight, bytesFor, place, maskOf, bytesOf, spare}
 use Rattle.document.specs.Coset.{dimension}
 use Rattle.document.specs.Generator.{generator, isCodeword, encodeMask, messageOf}
 use Rattle.document.proofs.Theory.{Length}
-use Rattle.binary.specs.Bits.{Holds}
-use Rattle.generator.specs.Building.{Rising}
+use Rattle.binary.specs.Packed.{packed, placesIn, Register, Feedback}
+use Rattle.generator.specs.Building.{Rising, RoomWhereSmall}
+use Rattle.codeword.specs.Place.{wholeMask}
 
 pub record Coded (n s : ℕ) (reps : List ℕ) : Type 0 where
   pub length-of : Length n
@@ -31,33 +36,43 @@ pub record Usable (n k s : ℕ) (reps : List ℕ) : Type 0 where
   pub k-pos : 1 ≤ k
   pub k-le : k ≤ n
 
-pub record Fresh (n : ℕ) (g p w : List ℕ) : Type 0 where
-  pub one : Holds 1 g
-  pub zero : Holds 0 w
-  pub g-long : n < length g
-  pub p-long : 12 < length p
-  pub w-long : n + 14 ≤ length w
+pub record Fresh (n s : ℕ) (f r e g : List ℕ) : Type 0 where
+  pub none : packed f ≡ 0
+  pub empty : packed r ≡ 0
+  pub room : n ≤ placesIn f
+  pub some : 1 ≤ length f
+  pub fits : placesIn f ≤ 65535
+  pub long : length r ≡ length f
+  pub tables : RoomWhereSmall s e g
 
-pub record RemainderTested (n : ℕ) (reps word w : List ℕ) (r : Bool) : Type 0 where
+pub record FeedbackMade (n : ℕ) (reps f r : List ℕ) : Type 0 where
+  pub feedback : Feedback (n - dimension n reps) (generator n reps) f
+  pub empty : packed r ≡ 0
+
+pub record RemainderTested (n : ℕ) (reps word : List ℕ) (r : Bool) : Type 0 where
   pub is : r ≡ not (isCodeword (n - dimension n reps) (generator n reps) (maskOf wordWeight n word))
-  pub clear : r ≡ false → Holds 0 w
 
 pub record Encodable (n k : ℕ) (message out : List ℕ) : Type 0 where
   pub message-long : length message ≡ bytesFor k
+  pub no-spare : spare messageWeight k message ≡ false
   pub out-long : length out ≡ bytesFor n
 
-pub record Encoded (n k m : ℕ) (message g w w′ : List ℕ) : Type 0 where
-  pub holds : {a : ℕ} → Holds a g → a / 2 ^ m ≡ 1 → Holds 0 w → Holds (encodeMask m a (maskOf messageWeight k message)) w′
+pub record EightOf (message : List ℕ) (m : ℕ) (r : List ℕ) (i x : ℕ) : Type 0 where
+  pub small : x < 256
+  pub is : {p : ℕ} → Register m p r → x ≡ (wholeMask messageWeight message * 2 ^ m + p) / 2 ^ i % 256
+
+pub record PlacesWritten (message : List ℕ) (m : ℕ) (r out : List ℕ) : Type 0 where
+  pub at : {p : ℕ} → Register m p r → (i : ℕ) → i < length out * 8
+      → place wordWeight out i ≡ coefficient i (wholeMask messageWeight message * 2 ^ m + p)
 
 pub record CodewordWritten (n k : ℕ) (reps message out : List ℕ) : Type 0 where
   pub is : out ≡ bytesOf wordWeight n (encodeMask (n - dimension n reps) (generator n reps) (maskOf messageWeight k message))
 
-pub record Readable (m k : ℕ) (word w out : List ℕ) : Type 0 where
+pub record Readable (m k : ℕ) (word out : List ℕ) : Type 0 where
   pub word-long : length word ≡ bytesFor (m + k)
   pub out-long : length out ≡ bytesFor k
+  pub k-pos : 1 ≤ k
   pub most : m + k ≤ 65535
-  pub w-long : m + k + 14 ≤ length w
-  pub clear : Holds 0 w
 
 pub record MessageRead (m k : ℕ) (word out : List ℕ) : Type 0 where
   pub is : out ≡ bytesOf messageWeight k (messageOf m (maskOf wordWeight (m + k) word))

@@ -1,10 +1,10 @@
-// Words and messages in bytes: single places read and set, four of a word read at once, and spare bits. Each layout has functions of
-// its own.
+// Words and messages in bytes: single places read and set, four of a word or eight of a message read at once, and spare bits. Each
+// layout has functions of its own.
 ghost use mathlib.Core.Path.{_≡_};
-ghost use Prim.Native.Nat.{_/_, _%_, _<_, _≤_};
+ghost use Prim.Native.Nat.{_/_, _%_, _^_, _<_, _≤_};
 ghost use lib.ListN.{length};
 ghost use Rattle.document.specs.Layout.{wordWeight, messageWeight, bytesFor, place, spare};
-ghost use Rattle.codeword.specs.Place.{Put, fourPlaces};
+ghost use Rattle.codeword.specs.Place.{Put, turned, wholeMask, fourPlaces};
 
 pub fn word_place(bytes: &[u8], i: usize) -> u8
     requires { ⌜ i / 8 < length (now bytes) ⌝ }
@@ -42,6 +42,28 @@ pub fn set_message_place(bytes: &mut [u8], i: usize, bit: u8)
     ensures { λ _. ⌜ Put messageWeight i bit (now (bytes .entry)) (now (bytes .exit)) ⌝ }
 {
     bytes[i / 8] = (bytes[i / 8] & !(1 << (i % 8))) | (bit << (i % 8));
+}
+
+// A byte with its places the other way round: each multiplication puts copies of the byte side by side, of which the masks keep four
+// bits each, where they stand in the turned byte modulo 8; the last one adds them up.
+pub fn turned_byte(b: usize) -> usize
+    requires { ⌜ b < 256 ⌝ }
+    ensures { λ r. ⌜ r ≡ turned b ⌝ }
+{
+    (((((b * 2050) & 139536) | ((b * 32800) & 558144)) * 65793) >> 16) & 255
+}
+
+// Eight places of a message from i on, place i lowest; those past the last byte are 0.
+pub fn eight_message_places(bytes: &[u8], i: usize) -> usize
+    requires { ⌜ i / 8 < length (now bytes) ⌝ }
+    ensures { λ r. ⌜ r ≡ wholeMask messageWeight (now (bytes .entry)) / 2 ^ i % 256 ⌝ }
+{
+    let at = i / 8;
+    let low = (bytes[at] as usize) >> (i % 8);
+    if at + 1 == bytes.len() {
+        return low;
+    }
+    (low + ((bytes[at + 1] as usize) << (8 - i % 8))) & 255
 }
 
 pub fn bytes_for(n: usize) -> usize

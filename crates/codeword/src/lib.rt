@@ -1,10 +1,10 @@
 // Words and messages in bytes; the codeword of a message, the message of a codeword, and which words are codewords.
 
-// single places and spare bits of bytes
+// single places, eight at once, and spare bits of bytes
 pub mod layout;
 
-// places between bytes and slices of 0 and 1
-pub mod spread;
+// what the encoder keeps: a remainder by the generator
+pub mod remainder;
 
 // the test for a codeword
 pub mod test;

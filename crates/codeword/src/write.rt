@@ -1,23 +1,44 @@
 // Codewords and messages written into bytes.
 ghost use mathlib.Core.Path.{_≡_};
-ghost use Prim.Native.Nat.{_+_, _<_, _≤_};
+ghost use Prim.Native.Nat.{_+_, _*_, _<_, _≤_};
 ghost use lib.ListN.{length};
-ghost use Rattle.document.specs.Layout.{bytesFor};
-ghost use Rattle.codeword.specs.Codewords.{Usable, Fresh, CodewordWritten, Encodable, Encoded, Readable, MessageRead};
-use crate::spread::pack_message;
-use crate::spread::pack_word;
-use crate::spread::spread_message;
-use crate::spread::spread_word;
-use binary::bits::divide;
+ghost use Rattle.binary.specs.Packed.{placesIn};
+ghost use Rattle.codeword.specs.Codewords.{Usable, Fresh, Encodable, EightOf, PlacesWritten, CodewordWritten, Readable, MessageRead};
+use crate::layout::eight_message_places;
+use crate::layout::set_message_place;
+use crate::layout::turned_byte;
+use crate::layout::word_place;
+use crate::remainder::make_feedback;
+use crate::remainder::take_message;
+use binary::packed::eight_places;
 
-// The codeword's places, in place of 0: the message goes in twice, as division leaves the remainder alone.
-fn codeword_places(message: &[u8], n: usize, k: usize, generator: &[u8], m: usize, bits: &mut [u8])
-    requires { ⌜ (m + k ≡ n) × (length (now message) ≡ bytesFor k) × (m < length (now generator)) × (n ≤ length (now bits)) ⌝ }
-    ensures { λ _. ⌜ Encoded n k m (now (message .entry)) (now (generator .entry)) (now (bits .entry)) (now (bits .exit)) ⌝ }
+// Eight places from i on of the word that has the message from place m on, and below it what the register holds.
+fn eight_codeword_places(message: &[u8], m: usize, register: &[u64], i: usize) -> usize
+    requires { ⌜ (m ≤ placesIn (now register)) × (placesIn (now register) ≤ 65535) × (i < m + length (now message) * 8) × (i ≤ 65535) × (1 ≤ length (now message)) ⌝ }
+    ensures { λ r. ⌜ EightOf (now (message .entry)) m (now (register .entry)) i r ⌝ }
 {
-    spread_message(message, k, m, bits);
-    divide(bits, n, generator, m);
-    spread_message(message, k, m, bits);
+    if m <= i {
+        return eight_message_places(message, i - m);
+    }
+    let low = eight_places(register, 64 * register.len() - m + i) as usize;
+    if i + 8 <= m {
+        return low;
+    }
+    (low + (eight_message_places(message, 0) << (m - i))) & 255
+}
+
+// All of its places, eight at a time.
+fn write_places(message: &[u8], m: usize, register: &[u64], out: &mut [u8])
+    requires { ⌜ (m ≤ placesIn (now register)) × (placesIn (now register) ≤ 65535) × (length (now out) * 8 < m + length (now message) * 8 + 8) × (length (now out) ≤ 8191) × (1 ≤ length (now message)) ⌝ }
+    ensures { λ _. ⌜ PlacesWritten (now (message .entry)) m (now (register .entry)) (now (out .exit)) ⌝ }
+{
+    let end = out.len();
+    let mut j: usize = 0;
+    while j < end {
+        let eight = eight_codeword_places(message, m, register, 8 * j);
+        out[j] = turned_byte(eight) as u8;
+        j = j + 1;
+    }
 }
 
 // The codeword of a message without spare bits, both buffers of the right length.
@@ -28,23 +49,37 @@ pub fn write_codeword(
     s: usize,
     message: &[u8],
     out: &mut [u8],
-    generator: &mut [u8],
-    factor: &mut [u16],
-    bits: &mut [u8],
+    feedback: &mut [u64],
+    register: &mut [u64],
+    powers: &mut [u16],
+    logs: &mut [u16],
 )
-    requires { ⌜ Usable n k s (now representatives) × Encodable n k (now message) (now out) × Fresh n (now generator) (now factor) (now bits) ⌝ }
+    requires { ⌜ Usable n k s (now representatives) × Encodable n k (now message) (now out) × Fresh n s (now feedback) (now register) (now powers) (now logs) ⌝ }
     ensures { λ _. ⌜ CodewordWritten n k (now (representatives .entry)) (now (message .entry)) (now (out .exit)) ⌝ }
 {
-    let m = generator::generator::generator(representatives, n, s, generator, factor, bits);
-    codeword_places(message, n, k, generator, m, bits);
-    pack_word(bits, out);
+    make_feedback(
+        representatives,
+        n,
+        n - k,
+        s,
+        feedback,
+        register,
+        powers,
+        logs,
+    );
+    take_message(message, k, feedback, register);
+    write_places(message, n - k, register, out);
 }
 
-// The message in the k places of a word from m on. The bits hold 0.
-pub fn write_message(word: &[u8], m: usize, k: usize, bits: &mut [u8], out: &mut [u8])
-    requires { ⌜ Readable m k (now word) (now bits) (now out) ⌝ }
+// The message in the k places of a word from m on. The spare bits are in the last byte.
+pub fn write_message(word: &[u8], m: usize, k: usize, out: &mut [u8])
+    requires { ⌜ Readable m k (now word) (now out) ⌝ }
     ensures { λ _. ⌜ MessageRead m k (now (word .entry)) (now (out .exit)) ⌝ }
 {
-    spread_word(word, m, k, bits);
-    pack_message(bits, out);
+    out[out.len() - 1] = 0;
+    let mut i: usize = 0;
+    while i < k {
+        set_message_place(out, i, word_place(word, m + i));
+        i = i + 1;
+    }
 }

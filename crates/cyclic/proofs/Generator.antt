@@ -11,29 +11,30 @@
 --   generator-unique  the generator is the only mask of its degree that does
 --   short             a shorter mask that does is 0
 --   codeword-add      sums of codewords
+--   codeword-raised   x^j times a mask is a codeword exactly where the mask is one
 use mathlib.Core.Path.{_≡_, sym, ap, _∙_, subst}
 use mathlib.Core.Logic.{_⊎_, _↔_}
 use mathlib.Core.List.{List, map}
 use lib.ListN.{length, length-map}
 use lib.Dec.{T}
-use Prim.Native.Nat.{ℕ, suc, _+_ as _+ℕ_, _-_ as _-ℕ_, _*_ as _*ℕ_, _/_, _%_, _^_, _≤_, _<_}
-use native.Mathlib.Nat.{mod-lt}
+use Prim.Native.Nat.{ℕ, zero, suc, _+_ as _+ℕ_, _-_ as _-ℕ_, _*_ as _*ℕ_, _/_, _%_, _^_, _≤_, _<_}
+use native.Mathlib.Nat.{mod-lt, mul-assoc, pow-suc}
 use native.Mathlib.Decide.{decLt}
 use native.Mathlib.Omega.{arith}
 use Rattle.algebra.proofs.Ring.{Ring, zero-add, zero-mul}
 use Rattle.algebra.proofs.Power.{pow, pow-add, pow-mod, pow-inj}
-use Rattle.algebra.proofs.Field.{idempotent, square-inj}
+use Rattle.algebra.proofs.Field.{cancel, idempotent, square-inj}
 use Rattle.algebra.proofs.Lists.{In, Distinct, map-in, in-map, distinct-map, prod}
 use Rattle.algebra.proofs.Divide.{divides-short}
 use Rattle.algebra.proofs.Value.{ev}
 use Rattle.field.specs.Mask.{_⊕_, coefficient, clmul, remainder}
 use Rattle.field.proofs.Remainder.{deg-of}
-use Rattle.field.proofs.Value.{coef, value, value-add, value-mul}
+use Rattle.field.proofs.Value.{coef, value, value-dbl, value-add, value-mul}
 use Rattle.cyclic.proofs.Division.{_∣ₘ_, divides-add, divide, divides-iff}
 use Rattle.cyclic.proofs.Monic.{Monic, monic-deg, monic-eq, Π, Π-monic, Π-value, Π-root, root-Π, Π-divides, Π-any, sq, squares-Π}
 use Rattle.cyclic.proofs.Lift.{lift, lift-mul, lift-at, lift-below, lift-poly, lift-monic}
 use Rattle.cyclic.proofs.Lift.{lift-value, lift-null, lift-inj, pack, pack-lt, pack-lift}
-use Rattle.cyclic.proofs.CyclicCode.{Code, Vanishes}
+use Rattle.cyclic.proofs.CyclicCode.{Code, power-ne, Vanishes}
 use Rattle.cyclic.proofs.Members.{members, members-in, in-members, members-distinct, members-le}
 
 module _ {A : Type 0} {R : Ring A} {n : ℕ} (C : Code R n) where
@@ -172,6 +173,22 @@ module _ {A : Type 0} {R : Ring A} {n : ℕ} (C : Code R n) where
 
   pub codeword-add : (c d : ℕ) → InCode c → InCode d → InCode (c ⊕ d)
   codeword-add = divides-add generator
+
+  -- no power of α is 0, so a value times it is 0 only where the value is
+  codeword-doubled : (c : ℕ) → InCode (c *ℕ 2) ↔ InCode c
+  codeword-doubled c = (
+    λ m. codeword c .1 (λ i h t. cancel R K (pow R α i) (value R (pow R α i) c) (power-ne C i)
+        (R .law-mul-comm (pow R α i) (value R (pow R α i) c) ∙ sym (value-dbl R (pow R α i) c) ∙ codeword (c *ℕ 2) .0 m i h t)),
+    λ m. codeword (c *ℕ 2) .1 (λ i h t. value-dbl R (pow R α i) c ∙ rw (codeword c .0 m i h t) (zero-mul R _)),
+  )
+
+  pub codeword-raised : (j c : ℕ) → InCode (c *ℕ 2 ^ j) ↔ InCode c
+  codeword-raised zero c = let e : c *ℕ 2 ^ 0 ≡ c = omega arith in (subst InCode e, subst InCode (sym e))
+  codeword-raised (suc j) c =
+      let e : c *ℕ 2 ^ suc j ≡ c *ℕ 2 ^ j *ℕ 2 = ap (λ (x : ℕ). c *ℕ x) (pow-suc 2 j) ∙ sym (mul-assoc c (2 ^ j) 2) in (
+        λ m. codeword-raised j c .0 (codeword-doubled (c *ℕ 2 ^ j) .0 (subst InCode e m)),
+        λ m. subst InCode (sym e) (codeword-doubled (c *ℕ 2 ^ j) .1 (codeword-raised j c .1 m)),
+      )
 
   pub generator-unique : (g : ℕ) → g / 2 ^ checks ≡ 1 → Vanishes C g → g ≡ generator
   generator-unique g e v =

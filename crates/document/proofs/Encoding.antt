@@ -6,6 +6,7 @@
 --   multiple-iff         a codeword is a multiple of the generator,
 --   defining-iff         a mask that is 0 at α^i for each i of D,
 --   representatives-iff  and one that is 0 at α^r for each representative r
+--   raised-is            x^j times a mask is a codeword exactly where the mask is one
 --   encode-is-codeword   what encoding gives is a codeword
 --   encode-systematic    with the message in its high places; encode-checks: and the remainder in the low ones
 --   encode-lt            of n places, where the message has k; message-lt: and back
@@ -44,6 +45,7 @@ use Rattle.document.specs.Coset.{inSet, dimension}
 use Rattle.document.specs.Generator.{valueBelow, valueAt, generator, isCodeword, encodeMask, messageOf}
 use Rattle.document.proofs.Theory.{Length, degree, T-of, of-T, represented, codeOf, checks-are, dimension-is}
 use Rattle.document.proofs.GeneratorIs.{generator-is, generator-degree}
+use Rattle.document.proofs.Cosets.{bool-eq}
 
 -- ---- values on plain numbers
 
@@ -124,6 +126,13 @@ module _ {n : ℕ} (l : Length n) (reps : List ℕ) where
 
   pub codeword-iff : (c : ℕ) → (isCodeword m g c ≡ true) ↔ Generator.InCode C c
   codeword-iff c = subst (λ (x : ℕ). (isCodeword m g c ≡ true) ↔ (x ∣ₘ c)) (generator-is l reps) (multiple-iff c)
+
+  pub raised-is : (j c : ℕ) → isCodeword m g (c * 2 ^ j) ≡ isCodeword m g c
+  raised-is j c =
+      let w = Generator.codeword-raised C j c in
+      bool-eq (isCodeword m g (c * 2 ^ j)) (isCodeword m g c)
+      (λ e. codeword-iff c .1 (w .0 (codeword-iff (c * 2 ^ j) .0 e)))
+      (λ e. codeword-iff (c * 2 ^ j) .1 (w .1 (codeword-iff c .0 e)))
 
   pub defining-iff : (c : ℕ) → (isCodeword m g c ≡ true) ↔ ((i : ℕ) → inSet n reps i ≡ true → valueAtα i c ≡ 0)
   defining-iff c = (

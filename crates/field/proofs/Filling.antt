@@ -5,6 +5,7 @@
 --   logs-none, logs-more         their logarithms so far
 --   filled                       the tables, when all powers are there and the entry of 0 is set
 --   fillable-kept                slices of the same lengths can be filled too
+--   round-fillable               room for five rounds is room for one
 use mathlib.Core.Path.{_≡_, refl, sym, ap, _∙_}
 use mathlib.Core.List.{List}
 use Prim.Native.Nat.{ℕ, _+_, _-_, _*_, _^_, _≤_, _<_}
@@ -14,7 +15,7 @@ use native.Mathlib.Omega.{arith}
 use lib.ListN.{length, getD, set, length-set}
 use lib.Seq.{getD-set-same, getD-set-other}
 use Rattle.field.specs.Field.{Degree, ω, fieldMultiply, fieldPower, logarithm}
-use Rattle.field.specs.Tables.{Fillable, Powers, Logs, Filled}
+use Rattle.field.specs.Tables.{RoundFillable, Fillable, Powers, Logs, Filled}
 use Rattle.field.proofs.Primitive.{Degree-bounds}
 use Rattle.field.proofs.Numbers.{power-z, power-s, power-lt, power-round, power-inj, power-onto, logarithm-of, logarithm-zero}
 
@@ -89,3 +90,6 @@ filled {s} {n} {i} {g} {e′} {g′} r o l v w = record {
 
 pub fillable-kept : {s : ℕ} {e g e′ g′ : List ℕ} → length e′ ≡ length e → length g′ ≡ length g → Fillable s e g → Fillable s e′ g′
 fillable-kept p q r = record { degree = r .degree; e-long = omega (arith, p, r .e-long); g-long = omega (arith, q, r .g-long) }
+
+pub round-fillable : {s : ℕ} {e g : List ℕ} → Fillable s e g → RoundFillable s e g
+round-fillable r = record { degree = r .degree; e-long = omega (arith, r .e-long); g-long = r .g-long }

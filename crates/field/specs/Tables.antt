@@ -1,6 +1,7 @@
 -- What the tables of a degree hold: the powers of ω for five rounds, and the logarithms of all elements.
 --
---   Fillable s e g         e and g are long enough
+--   RoundFillable s e g    e is long enough for the powers of one round, and g for the logarithms
+--   Fillable s e g         e is long enough for five rounds
 --   Powers s n e       e holds the first n powers
 --   Powered s e        e holds the powers of five rounds
 --   Logs s n g g′      g′ holds the logarithms of the first n powers, and else what g held
@@ -12,6 +13,11 @@ use mathlib.Core.List.{List}
 use Prim.Native.Nat.{ℕ, _-_, _*_, _^_, _≤_, _<_}
 use lib.ListN.{length, getD}
 use Rattle.field.specs.Field.{Degree, ω, fieldPower, logarithm}
+
+pub record RoundFillable (s : ℕ) (e g : List ℕ) : Type 0 where
+  pub degree : Degree s
+  pub e-long : 2 ^ s - 1 ≤ length e
+  pub g-long : 2 ^ s ≤ length g
 
 pub record Fillable (s : ℕ) (e g : List ℕ) : Type 0 where
   pub degree : Degree s

@@ -1,14 +1,14 @@
 // Filling the tables: the powers of ω five times round, and the logarithms.
 ghost use mathlib.Core.Path.{_≡_};
 ghost use Prim.Native.Nat.{_-_, _^_};
-ghost use Rattle.field.specs.Tables.{Fillable, Powers, Logs, Filled};
+ghost use Rattle.field.specs.Tables.{RoundFillable, Fillable, Powers, Logs, Filled};
 use crate::product::double;
 use crate::product::mask;
 use crate::product::order;
 
 // The powers of ω once round, and their logarithms.
-fn once(s: usize, n: usize, powers: &mut [u16], logs: &mut [u16])
-    requires { ⌜ Fillable s (now powers) (now logs) × (n ≡ 2 ^ s - 1) ⌝ }
+pub fn fill_round(s: usize, n: usize, powers: &mut [u16], logs: &mut [u16])
+    requires { ⌜ RoundFillable s (now powers) (now logs) × (n ≡ 2 ^ s - 1) ⌝ }
     ensures { λ _. ⌜ Powers s n (now (powers .exit)) × Logs s n (now (logs .entry)) (now (logs .exit)) ⌝ }
 {
     let m = mask(s);
@@ -28,7 +28,7 @@ pub fn fill(s: usize, powers: &mut [u16], logs: &mut [u16])
     ensures { λ _. ⌜ Filled s (now (logs .entry)) (now (powers .exit)) (now (logs .exit)) ⌝ }
 {
     let n = order(s);
-    once(s, n, powers, logs);
+    fill_round(s, n, powers, logs);
     logs[0] = n as u16;
     let end = 5 * n;
     let mut i = n;

@@ -1,60 +1,37 @@
 -- The generator, coset by coset.
 --
---   Cleared, cleared-more, unit-end      the polynomial 1 in place of anything
---   length-at, degree-at      what Lengths says in the words of the theory and of the field
---   root-is                   α is a power of ω
---   building-start            the generator of no representatives is 1
---   joined                    g times the factor of a coset, handed over
---   reps-apart, building-more one representative more, from the last down
+--   length-at, degree-at, coset-at      what Lengths says in the words of the theory, of the field and of a coset
+--   generator-lt, small-mask      a generator has one coefficient more than its degree says, and so has a factor
+--   one-round, no-round        the tables of one round, where s is at most 8
+--   reps-apart, one-more       one representative more, from the last down: the generator times the factor of its coset
+--   Making, making-start, making-more, making-end      the product, representative by representative
+--   multiplied-one             in place of 1, the generator itself
 use mathlib.Core.Path.{_≡_, refl, sym, ap, _∙_, subst}
 use mathlib.Core.List.{List, [], _∷_}
-use Prim.Native.Nat.{ℕ, zero, suc, _+_, _-_, _/_, _^_, _≤_, _<_}
-use native.Mathlib.Nat.{lt-of-lt-of-le}
-use native.Mathlib.Decide.{ℕ-discrete, decLt}
+use Prim.Native.Nat.{ℕ, zero, suc, _+_, _-_, _*_, _%_, _^_, _≤_, _<_}
+use native.Mathlib.Nat.{mod-eq-of-lt, lt-of-lt-of-le}
 use native.Mathlib.Numerals.{add-one}
 use native.Mathlib.Omega.{arith}
-use lib.ListN.{length, getD, set, drop, List·getD-eq-default}
-use lib.Pow.{pow-mono}
-use lib.Seq.{getD-set-same, getD-set-other, drop-cons, drop-length}
+use lib.ListN.{length, getD, drop}
+use lib.Pow.{pow-lt, pow-mono}
+use lib.Seq.{drop-cons, drop-length}
 use Rattle.algebra.proofs.Lists.{In, here, there}
-use Rattle.field.specs.Field.{Degree, fieldPower, α}
-use Rattle.field.proofs.Numbers.{power-lt}
+use Rattle.field.specs.Mask.{clmul}
+use Rattle.field.specs.Field.{Degree}
+use Rattle.field.specs.Tables.{RoundFillable, Powers, Logs}
+use Rattle.field.proofs.MaskProduct.{clmul-one-l, clmul-one-r}
 use Rattle.cyclic.proofs.Lift.{lt-of-degree}
 use Rattle.document.specs.Coset.{smallest, definingSet, dimension}
 use Rattle.document.specs.Generator.{generator}
-use Rattle.document.proofs.Sane.{set-size, empty-set, generator-nil}
+use Rattle.document.proofs.Sane.{set-size, generator-nil}
 use Rattle.document.proofs.Theory.{Length, degree}
 use Rattle.document.proofs.GeneratorIs.{generator-degree}
-use Rattle.document.proofs.Join.{CosetApart, apart-of, join-size, generator-join}
-use Rattle.binary.specs.Bits.{Holds, Multiplied, Moved}
-use Rattle.generator.specs.Coefficients.{Unit, CosetWalk, CosetWalked}
-use Rattle.generator.specs.Building.{Rising, Lengths, Building, Joined}
-use Rattle.generator.proofs.Factor.{walked-size, walked-holds}
-
--- ---- the polynomial 1
-pub record Cleared (i : ℕ) (p : List ℕ) : Type 0 where
-  pub at : (k : ℕ) → k < i → getD p k 0 ≡ 0
-
-pub cleared-start : {p : List ℕ} → Cleared 0 p
-cleared-start = record { at = λ k h. absurd (omega arith) }
-
-pub cleared-more : {i : ℕ} {p : List ℕ} → Cleared i p → i < length p → Cleared (i + 1) (set p i 0)
-cleared-more {i} {p} t h = record {
-  at = λ k b. elim (ℕ-discrete k i) [
-    | yes e ↦ ap (λ (x : ℕ). getD (set p i 0) x 0) e ∙ getD-set-same p i 0 0 h
-    | no e ↦ getD-set-other p i k 0 0 e ∙ t .at k (omega arith)
-  ];
-}
-
-pub unit-end : {i : ℕ} {p : List ℕ} → Cleared i p → length p ≤ i → 0 < length p → Unit (set p 0 1)
-unit-end {i} {p} t h l = record { one = go }
-  where
-    go : (k : ℕ) → getD (set p 0 1) k 0 ≡ getD (1 ∷ []) k 0
-    go zero = getD-set-same p 0 1 0 l
-    go (suc k) = getD-set-other p 0 (suc k) 1 0 (λ e. omega arith) ∙ elim (decLt (suc k) i) [
-      | yes b ↦ t .at (suc k) b
-      | no b ↦ List·getD-eq-default p 0 (omega arith)
-    ]
+use Rattle.document.proofs.Join.{CosetApart, apart-of, generator-join}
+use Rattle.binary.specs.Packed.{packed, placesIn}
+use Rattle.generator.specs.Coset.{CosetOf, RoundWhereSmall, Factored}
+use Rattle.generator.specs.Building.{Rising, Lengths, Multiplied}
+use Rattle.generator.proofs.CosetWalk.{length-of}
+use Rattle.generator.proofs.LowPlaces.{clmul-on}
 
 -- ---- lengths
 pub length-at : {n s : ℕ} → Lengths n s → Length n
@@ -63,48 +40,39 @@ length-at l = record { odd = l .odd; most = omega (arith, l .s-is, l .small) }
 pub degree-at : {n s : ℕ} → Lengths n s → Degree s
 degree-at l = subst Degree (sym (l .s-is)) (degree (length-at l))
 
-pub root-is : (s n : ℕ) {q x : ℕ} → q ≡ 2 ^ s - 1 → x ≡ fieldPower s 2 (q / n) → x ≡ α s n
-unfolding α
-root-is s n e f = f ∙ ap (λ (y : ℕ). fieldPower s 2 (y / n)) e
-
-pub length-of : {n s r a : ℕ} → CosetWalk n s r a → Length n
-length-of w = record { odd = w .odd; most = omega (arith, w .s-is, w .small) }
-
--- ---- one coset more
-pub building-start : {n : ℕ} {g w : List ℕ} → Holds 1 g → Holds 0 w → Building n 0 [] g w
-building-start {n} {g} {w} h z = record {
-  holds = subst (λ (x : ℕ). Holds x g) (sym (generator-nil n)) h;
-  degree-is = sym (ap length (empty-set n));
-  clear = z;
+pub coset-at : {n s i r : ℕ} {reps : List ℕ} → Lengths n s → Rising n reps → 0 < i → i ≤ length reps → r ≡ getD reps (i - 1) 0
+    → CosetOf n s r
+coset-at {n} {s} {i} l h b c e = record {
+  odd = l .odd;
+  s-is = l .s-is;
+  small = l .small;
+  r-lt = subst (λ (x : ℕ). x < n) (sym e) (h .below (i - 1) (omega arith));
 }
 
--- a generator has n - k + 1 coefficients
-generator-lt : {n : ℕ} → Length n → (reps : List ℕ) {d : ℕ} → d ≡ length (definingSet n reps) → generator n reps < 2 ^ (d + 1)
+-- ---- degrees
+pub generator-lt : {n : ℕ} → Length n → (reps : List ℕ) {d : ℕ} → d ≡ length (definingSet n reps) → generator n reps < 2 ^ (d + 1)
 generator-lt {n} l reps {d} e =
     subst (λ (x : ℕ). generator n reps < 2 ^ x)
     (ap suc (set-size n reps ∙ sym e) ∙ sym (add-one d)) (lt-of-degree (generator n reps) (n - dimension n reps) (generator-degree l reps))
 
-widen : {a : ℕ} (k m : ℕ) → a < 2 ^ k → k ≤ m → a < 2 ^ m
-widen k m h l = lt-of-lt-of-le h (pow-mono l)
+pub small-mask : {n s r f m : ℕ} → CosetOf n s r → Factored n s r f m → f < 2 ^ (m + 1)
+small-mask {n} {s} {r} {f} {m} c t = subst (λ (x : ℕ). x < 2 ^ (m + 1)) (sym (t .mask-is)) (generator-lt (length-of c) (r ∷ []) (t .degree-is))
 
-set-le : (n : ℕ) (reps : List ℕ) → length (definingSet n reps) ≤ n
-set-le n reps = omega (arith, set-size n reps)
-
-pub joined : {n s r a d m : ℕ} {p g w w₁ w₂ g₂ : List ℕ} → CosetWalk n s r a → CosetWalked n s r m p
-    → Multiplied (m + 1) (d + 1) p g w w₁ → Moved (n + 1) w₁ g w₂ g₂ → Joined n r d (d + m) g w g₂ w₂
-joined {n} {s} {r} {a} {d} {m} {p} {g} {w} {w₁} {w₂} {g₂} k t u v = record {
-  built = λ {reps} ap b.
-      let l = length-of k in
-      let size = walked-size l (k .s-is) (k .r-lt) t in
-      let e : d + m ≡ length (definingSet n (r ∷ reps)) = omega (arith, b .degree-is, size, join-size n r reps ap) in
-      let h : Holds (generator n (r ∷ reps)) w₁ =
-      subst (λ (x : ℕ). Holds x w₁) (sym (generator-join l r reps ap))
-      (u .holds (walked-holds l (k .s-is) (k .r-lt) t) (generator-lt l (r ∷ []) size) (b .holds)
-      (generator-lt l reps (b .degree-is)) (b .clear)) in
-      let lt = widen (d + m + 1) (n + 1) (generator-lt l (r ∷ reps) e) (omega (arith, e, set-le n (r ∷ reps))) in
-      let old = widen (d + 1) (n + 1) (generator-lt l reps (b .degree-is)) (omega (arith, b .degree-is, set-le n reps)) in
-      record { holds = v .holds h lt (b .holds) old; degree-is = e; clear = v .clear h lt };
+-- ---- the tables of one round
+pub one-round : {s q : ℕ} {e g e′ g′ : List ℕ} → RoundFillable s e g → q ≡ 2 ^ s - 1 → length e′ ≡ length e → length g′ ≡ length g
+    → Powers s q e′ → Logs s q g g′ → RoundWhereSmall s e′ g′
+one-round {s} {q} {e′ = e′} r f a b p l = record {
+  round = λ h. record {
+    degree = r .degree;
+    e-long = omega (arith, a, r .e-long);
+    g-long = omega (arith, b, r .g-long);
+    powers = subst (λ (x : ℕ). Powers s x e′) f p;
+    logs = λ k i. l .at k (omega arith);
+  };
 }
+
+pub no-round : {s : ℕ} {e g : List ℕ} → 8 < s → RoundWhereSmall s e g
+no-round h = record { round = λ l. absurd (omega arith) }
 
 -- ---- from the last representative down
 in-drop : (k : ℕ) (l : List ℕ) (q : ℕ) → In q (drop k l) → (j : ℕ) × (k ≤ j) × (j < length l) × (getD l j 0 ≡ q)
@@ -123,37 +91,60 @@ reps-apart {n} {s} {reps} l h i b =
       ap (smallest n) (sym (w .3)) ∙ h .least (w .0) (w .2),
     ))
 
-pub building-more : {n s i r d e : ℕ} {reps g w g′ w′ : List ℕ} → Lengths n s → Rising n reps → 0 < i → i ≤ length reps
-    → r ≡ getD reps (i - 1) 0 → Building n d (drop i reps) g w → Joined n r d e g w g′ w′ → Building n e (drop (i - 1) reps) g′ w′
-building-more {n} {s} {i = zero} l h a b q t j = absurd (omega arith)
-building-more {n} {s} {i = suc i} {r} {d} {e} {reps} {g} {w} {g′} {w′} l h a b q t j =
+pub one-more : {n s i r : ℕ} {reps : List ℕ} → Lengths n s → Rising n reps → 0 < i → i ≤ length reps → r ≡ getD reps (i - 1) 0
+    → generator n (drop (i - 1) reps) ≡ clmul (generator n (r ∷ [])) (generator n (drop i reps))
+one-more {i = zero} l h a b q = absurd (omega arith)
+one-more {n} {s} {i = suc i} {r} {reps} l h a b q =
     let down : suc i - 1 ≡ i = omega arith in
     let is : r ≡ getD reps i 0 = q ∙ ap (λ (k : ℕ). getD reps k 0) down in
-    subst (λ (k : ℕ). Building n e (drop k reps) g′ w′) (sym down)
-    (subst (λ (z : List ℕ). Building n e z g′ w′)
-    (ap (λ (x : ℕ). x ∷ drop (suc i) reps) is ∙ sym (drop-cons reps i 0 (omega arith)))
-    (j .built (subst (λ (x : ℕ). CosetApart n x (drop (suc i) reps)) (sym is) (reps-apart l h i (omega arith))) t))
+    ap (λ (k : ℕ). generator n (drop k reps)) down
+    ∙ ap (generator n) (drop-cons reps i 0 (omega arith) ∙ ap (λ (x : ℕ). x ∷ drop (suc i) reps) (sym is))
+    ∙ generator-join (length-at l) r (drop (suc i) reps)
+    (subst (λ (x : ℕ). CosetApart n x (drop (suc i) reps)) (sym is) (reps-apart l h i (omega arith)))
 
-pub building-lt : {n d : ℕ} {reps g w : List ℕ} → Building n d reps g w → d ≤ n
-building-lt {n} {d} {reps} b = omega (arith, b .degree-is, set-le n reps)
+-- ---- the product, representative by representative
+pub record Making (n i : ℕ) (reps p₀ p w : List ℕ) : Type 0 where
+  pub made : Multiplied (generator n (drop i reps)) p₀ p w
+  pub long : length p ≡ length p₀
+  pub other : length w ≡ length p₀
 
-pub building-first : {n : ℕ} {reps g w : List ℕ} → Rising n reps → Building n 0 [] g w → Building n 0 (drop (length reps) reps) g w
-building-first {n} {reps} {g} {w} h b = subst (λ (z : List ℕ). Building n 0 z g w) (sym (drop-length reps)) b
-
-pub building-end : {n d : ℕ} (i : ℕ) (reps : List ℕ) {g w : List ℕ} → i ≤ 0 → Building n d (drop i reps) g w → Building n d reps g w
-building-end {n} {d} i reps {g} {w} h b =
-    let e : i ≡ 0 = omega arith in subst (λ (k : ℕ). Building n d (drop k reps) g w) e b
-
-pub alpha-lt : {n s x : ℕ} → Lengths n s → x ≡ α s n → x < 2 ^ s
-unfolding α
-alpha-lt {n} {s} l e = subst (λ (y : ℕ). y < 2 ^ s) (sym e) (power-lt (degree-at l) 2 ((2 ^ s - 1) / n))
-
-pub walking-of : {n s i r a first : ℕ} {reps : List ℕ} → Lengths n s → Rising n reps → 0 < i → i ≤ length reps
-    → r ≡ getD reps (i - 1) 0 → first ≡ α s n → a ≡ fieldPower s first r → CosetWalk n s r a
-walking-of {n} {s} {i} {r} l h b c e f q = record {
-  odd = l .odd;
-  s-is = l .s-is;
-  small = l .small;
-  r-lt = subst (λ (x : ℕ). x < n) (sym e) (h .below (i - 1) (omega arith));
-  a-is = q ∙ ap (λ (x : ℕ). fieldPower s x r) f;
+pub making-start : {n : ℕ} {reps p w : List ℕ} → packed p < 2 ^ placesIn p → packed w ≡ 0 → length w ≡ length p
+    → Making n (length reps) reps p p w
+making-start {n} {reps} {p} {w} h e l = record {
+  made = record {
+    is = sym (ap (λ (g : ℕ). clmul g (packed p) % 2 ^ placesIn p) (ap (generator n) (drop-length reps) ∙ generator-nil n)
+        ∙ ap (λ (x : ℕ). x % 2 ^ placesIn p) (clmul-one-l (packed p)) ∙ mod-eq-of-lt h);
+    clear = e;
+  };
+  long = refl;
+  other = l;
 }
+
+pub making-more : {n s i r : ℕ} {reps p₀ p w p′ w′ : List ℕ} → Lengths n s → Rising n reps → 0 < i → i ≤ length reps
+    → r ≡ getD reps (i - 1) 0 → Making n i reps p₀ p w → Multiplied (generator n (r ∷ [])) p p′ w′ → length p′ ≡ length p → length w′ ≡ length w
+    → Making n (i - 1) reps p₀ p′ w′
+making-more {n} {s} {i} {r} {reps} {p₀} {p} {w} {p′} {w′} l h a b q t m lp lw =
+    let same : placesIn p ≡ placesIn p₀ = ap (λ (x : ℕ). 64 * x) (t .long) in
+    record {
+      made = record {
+        is = clmul-on (generator n (r ∷ [])) (generator n (drop i reps)) (packed p₀) (placesIn p₀) (t .made .is)
+            (m .is ∙ ap (λ (x : ℕ). clmul (generator n (r ∷ [])) (packed p) % 2 ^ x) same)
+            ∙ ap (λ (g : ℕ). clmul g (packed p₀) % 2 ^ placesIn p₀) (sym (one-more l h a b q));
+        clear = m .clear;
+      };
+      long = lp ∙ t .long;
+      other = lw ∙ t .other;
+    }
+
+pub making-end : {n i : ℕ} {reps p₀ p w : List ℕ} → i ≡ 0 → Making n i reps p₀ p w → Multiplied (generator n reps) p₀ p w
+making-end {n} {i} {reps} {p₀} {p} {w} e t = subst (λ (k : ℕ). Multiplied (generator n (drop k reps)) p₀ p w) e (t .made)
+
+-- ---- in place of 1
+pub multiplied-one : {n P : ℕ} (reps : List ℕ) {p p′ w′ : List ℕ} → Length n → n < P → P ≡ placesIn p → packed p ≡ 2 ^ 0 % 2 ^ P
+    → Multiplied (generator n reps) p p′ w′ → packed p′ ≡ generator n reps
+multiplied-one {n} {P} reps {p} l h e q t =
+    let d : suc (n - dimension n reps) ≤ P = omega arith in
+    let lt : generator n reps < 2 ^ P = lt-of-lt-of-le (lt-of-degree (generator n reps) (n - dimension n reps) (generator-degree l reps)) (pow-mono d) in
+    t .is ∙ ap (λ (x : ℕ). clmul (generator n reps) (packed p) % 2 ^ x) (sym e)
+    ∙ ap (λ (x : ℕ). clmul (generator n reps) x % 2 ^ P) (q ∙ mod-eq-of-lt (pow-lt {i = 0} {j = P} (omega arith)))
+    ∙ ap (λ (x : ℕ). x % 2 ^ P) (clmul-one-r (generator n reps)) ∙ mod-eq-of-lt lt

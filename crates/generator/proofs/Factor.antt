@@ -20,11 +20,11 @@ use Rattle.cyclic.proofs.Members.{members-distinct, in-members, members-in}
 use Rattle.document.specs.Coset.{inSet, definingSet}
 use Rattle.document.specs.Generator.{rootProduct, generator}
 use Rattle.document.proofs.Cosets.{coset-at, coset-of, doubled, round, walk-start, walk-on, walk-back}
-use Rattle.document.proofs.Theory.{Length, T-of, of-T, members-are}
+use Rattle.document.proofs.Theory.{T-of, of-T, members-are}
 use Rattle.document.proofs.Join.{alone-is, product-any}
-use Rattle.generator.specs.Coefficients.{walk, CosetWalked}
 use Rattle.binary.specs.Bits.{Holds}
-use Rattle.generator.proofs.CosetFactor.{length-walk}
+use Rattle.generator.specs.Coset.{CosetOf}
+use Rattle.generator.proofs.CosetWalk.{walk, length-walk, CosetWalked, length-of}
 
 pub walk-in : (n r m j : ℕ) → j < m → In (r * 2 ^ j % n) (walk n r m)
 unfolding walk
@@ -49,16 +49,16 @@ in-walk n r (suc m) x i = go (in-head i) (in-walk n r m x)
     go (inl e) f = (m, omega arith, e)
     go (inr i) f = let w = f i in (w .0, omega (arith, w .1), w .2)
 
-module _ {n s r m : ℕ} {p : List ℕ} (l : Length n) (s-is : s ≡ orderOfTwo n) (h : r < n) (w : CosetWalked n s r m p) where
+module _ {n s r m : ℕ} (c : CosetOf n s r) (w : CosetWalked n s r m) where
   -- two equal members would lead back to r in fewer than m turns
   apart : (i j : ℕ) → i < j → j < m → r * 2 ^ j % n ≢ r * 2 ^ i % n
   apart i j a b e =
-      let o : i ≤ orderOfTwo n = omega (arith, s-is, w .most) in
+      let o : i ≤ orderOfTwo n = omega (arith, c .s-is, w .most) in
       let k : ℕ = orderOfTwo n - i in
       let q : orderOfTwo n + (j - i) ≡ j + k = omega arith in
       w .first (j - i) (omega arith) (omega arith)
-      (walk-on n r (orderOfTwo n) (j - i) (round (l .odd) h) ∙ ap (λ (x : ℕ). r * 2 ^ x % n) q ∙ sym (walk-on n r j k e)
-      ∙ walk-back (l .odd) h i o refl)
+      (walk-on n r (orderOfTwo n) (j - i) (round (c .odd) (c .r-lt)) ∙ ap (λ (x : ℕ). r * 2 ^ x % n) q ∙ sym (walk-on n r j k e)
+      ∙ walk-back (c .odd) (c .r-lt) i o refl)
 
   pub walk-distinct : (k : ℕ) → k ≤ m → Distinct (walk n r k)
   unfolding walk
@@ -73,23 +73,23 @@ module _ {n s r m : ℕ} {p : List ℕ} (l : Length n) (s-is : s ≡ orderOfTwo 
   reach (suc j) =
       let v = reach j in
       let e : r * 2 ^ suc j % n ≡ r * 2 ^ suc (v .0) % n =
-      doubled (l .odd) r (r * 2 ^ v .0 % n) j (v .2) ∙ sym (doubled (l .odd) r (r * 2 ^ v .0 % n) (v .0) refl) in
+      doubled (c .odd) r (r * 2 ^ v .0 % n) j (v .2) ∙ sym (doubled (c .odd) r (r * 2 ^ v .0 % n) (v .0) refl) in
       elim (ℕ-discrete (suc (v .0)) m) [
-        | yes q ↦ (0, omega (arith, w .pos), e ∙ ap (λ (k : ℕ). r * 2 ^ k % n) q ∙ w .back ∙ walk-start h)
+        | yes q ↦ (0, omega (arith, w .pos), e ∙ ap (λ (k : ℕ). r * 2 ^ k % n) q ∙ w .back ∙ walk-start (c .r-lt))
         | no q ↦ (suc (v .0), omega (arith, v .1), e)
       ]
 
   pub coset-in-walk : (x : ℕ) → inSet n (r ∷ []) x ≡ true → In x (walk n r m)
   coset-in-walk x e =
-      let v = coset-at (l .odd) r x (sym (alone-is n r x) ∙ e) in
+      let v = coset-at (c .odd) r x (sym (alone-is n r x) ∙ e) in
       let t = reach (v .0) in
       subst (λ (y : ℕ). In y (walk n r m)) (sym (t .2) ∙ v .2) (walk-in n r m (t .0) (t .1))
 
   walk-in-coset : (x : ℕ) → In x (walk n r m) → (x < n) × (inSet n (r ∷ []) x ≡ true)
   walk-in-coset x i =
       let v = in-walk n r m x i in (
-        subst (λ (y : ℕ). y < n) (v .2) (mod-lt (r * 2 ^ v .0) (omega (arith, l .odd .least))),
-        alone-is n r x ∙ coset-of (l .odd) r x (v .0) (v .2),
+        subst (λ (y : ℕ). y < n) (v .2) (mod-lt (r * 2 ^ v .0) (omega (arith, c .odd .least))),
+        alone-is n r x ∙ coset-of (c .odd) r x (v .0) (v .2),
       )
 
   pub walked-size : m ≡ length (definingSet n (r ∷ []))
@@ -99,15 +99,15 @@ module _ {n s r m : ℕ} {p : List ℕ} (l : Length n) (s-is : s ≡ orderOfTwo 
         length-walk n r m,
         distinct-le (walk n r m) (definingSet n (r ∷ [])) (walk-distinct m (omega arith))
             (λ x i. let v = walk-in-coset x i in
-            subst (In x) (members-are l (r ∷ [])) (members-in (inSet n (r ∷ [])) n x (v .0) (T-of (v .1)))),
+            subst (In x) (members-are (length-of c) (r ∷ [])) (members-in (inSet n (r ∷ [])) n x (v .0) (T-of (v .1)))),
         distinct-le (definingSet n (r ∷ [])) (walk n r m)
-            (subst Distinct (members-are l (r ∷ [])) (members-distinct (inSet n (r ∷ [])) n))
+            (subst Distinct (members-are (length-of c) (r ∷ [])) (members-distinct (inSet n (r ∷ [])) n))
             (λ x i. coset-in-walk x
-            (of-T (inSet n (r ∷ []) x) (in-members (inSet n (r ∷ [])) n x (subst (In x) (sym (members-are l (r ∷ []))) i) .1))),
+            (of-T (inSet n (r ∷ []) x) (in-members (inSet n (r ∷ [])) n x (subst (In x) (sym (members-are (length-of c) (r ∷ []))) i) .1))),
       )
 
-  pub walked-holds : Holds (generator n (r ∷ [])) p
+  pub walked-holds : Holds (generator n (r ∷ [])) (rootProduct s (α s n) (walk n r m))
   walked-holds = record {
-    at = λ i. w .holds i ∙ ap (λ (k : ℕ). getD (rootProduct k (α k n) (walk n r m)) i 0) s-is
-        ∙ product-any l (r ∷ []) (walk n r m) (length-walk n r m ∙ walked-size) (walk-distinct m (omega arith)) walk-in-coset i;
+    at = λ i. ap (λ (k : ℕ). getD (rootProduct k (α k n) (walk n r m)) i 0) (c .s-is)
+        ∙ product-any (length-of c) (r ∷ []) (walk n r m) (length-walk n r m ∙ walked-size) (walk-distinct m (omega arith)) walk-in-coset i;
   }

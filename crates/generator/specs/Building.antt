@@ -2,18 +2,18 @@
 --
 --   Rising n reps          representatives below n, strictly rising, each the smallest of its coset
 --   Lengths n s            an odd length with its s, at most 12
---   Building n d reps g w  g holds the generator of reps, of degree d, and w holds 0
---   Joined n r d e g w g′ w′      so for one representative more
+--   RoomWhereSmall s e g   room for the tables of one round, where s is at most 8
+--   Multiplied f p p′ w′   p′ holds f times what p held, without what came up past its last number, and w′ holds 0
 use mathlib.Core.Path.{_≡_}
 use mathlib.Core.Bool.{true}
-use mathlib.Core.List.{List, _∷_}
-use Prim.Native.Nat.{ℕ, _≤_, _<_}
+use mathlib.Core.List.{List}
+use Prim.Native.Nat.{ℕ, _%_, _^_, _≤_, _<_}
 use lib.ListN.{length, getD}
+use Rattle.field.specs.Mask.{clmul}
 use Rattle.field.specs.Field.{OddLength, orderOfTwo}
-use Rattle.document.specs.Coset.{smallest, definingSet}
-use Rattle.document.specs.Generator.{generator}
-use Rattle.document.proofs.Join.{CosetApart}
-use Rattle.binary.specs.Bits.{Holds}
+use Rattle.field.specs.Tables.{RoundFillable}
+use Rattle.document.specs.Coset.{smallest}
+use Rattle.binary.specs.Packed.{packed, placesIn}
 
 pub record Rising (n : ℕ) (reps : List ℕ) : Type 0 where
   pub below : (i : ℕ) → i < length reps → getD reps i 0 < n
@@ -25,10 +25,9 @@ pub record Lengths (n s : ℕ) : Type 0 where
   pub s-is : s ≡ orderOfTwo n
   pub small : s ≤ 12
 
-pub record Building (n d : ℕ) (reps g w : List ℕ) : Type 0 where
-  pub holds : Holds (generator n reps) g
-  pub degree-is : d ≡ length (definingSet n reps)
-  pub clear : Holds 0 w
+pub record RoomWhereSmall (s : ℕ) (e g : List ℕ) : Type 0 where
+  pub room : s ≤ 8 → RoundFillable s e g
 
-pub record Joined (n r d e : ℕ) (g w g′ w′ : List ℕ) : Type 0 where
-  pub built : {reps : List ℕ} → CosetApart n r reps → Building n d reps g w → Building n e (r ∷ reps) g′ w′
+pub record Multiplied (f : ℕ) (p p′ w′ : List ℕ) : Type 0 where
+  pub is : packed p′ ≡ clmul f (packed p) % 2 ^ placesIn p
+  pub clear : packed w′ ≡ 0

@@ -1,2 +1,2 @@
-pub mod Coefficients
+pub mod Coset
 pub mod Building

@@ -1,89 +1,67 @@
-// The generator: the factors of the cosets, polynomials over the field with coefficients 0 and 1, multiplied over two elements.
-// Slices have the low coefficient first, and 0 above the degree.
+// The generator, the product of the cosets' factors, in a packed slice: whatever stands there is multiplied by it.
 ghost use mathlib.Core.Path.{_≡_};
-ghost use mathlib.Core.List.{[]};
-ghost use Prim.Native.Nat.{_+_, _<_, _≤_};
+ghost use mathlib.Core.List.{[], _∷_};
+ghost use Prim.Native.Nat.{_-_, _/_, _^_};
 ghost use lib.ListN.{length};
-ghost use Rattle.field.specs.Field.{α};
-ghost use Rattle.generator.specs.Coefficients.{CosetWalk, Unit, CosetWalked};
-ghost use Rattle.generator.specs.Building.{Rising, Lengths, Building, Joined};
+ghost use Rattle.field.specs.Field.{Degree};
+ghost use Rattle.document.specs.Generator.{generator};
+ghost use Rattle.binary.specs.Packed.{packed};
+ghost use Rattle.generator.specs.Coset.{CosetOf, RoundWhereSmall};
+ghost use Rattle.generator.specs.Building.{Rising, Lengths, RoomWhereSmall, Multiplied};
 use crate::coset::coset_factor;
-use binary::bits::hand_over;
-use field::power::power;
+use binary::packed::hand_over;
+use binary::packed::multiply;
 use field::product::order;
+use field::tables::fill_round;
 
-// The polynomial 1.
-fn one(factor: &mut [u16])
-    requires { ⌜ 0 < length (now factor) ⌝ }
-    ensures { λ _. ⌜ Unit (now (factor .exit)) ⌝ }
+// Tables where they pay: those of a field above 256 elements take longer to fill than they save.
+fn fill_where_small(s: usize, powers: &mut [u16], logs: &mut [u16])
+    requires { ⌜ Degree s × RoomWhereSmall s (now powers) (now logs) ⌝ }
+    ensures { λ _. ⌜ RoundWhereSmall s (now (powers .exit)) (now (logs .exit)) ⌝ }
 {
-    let end = factor.len();
-    let mut i: usize = 0;
-    while i < end {
-        factor[i] = 0;
-        i = i + 1;
+    if s <= 8 {
+        fill_round(s, order(s), powers, logs);
     }
-    factor[0] = 1;
 }
 
-// α of the length n.
-fn alpha(n: usize, s: usize) -> u16
-    requires { ⌜ Lengths n s ⌝ }
-    ensures { λ r. ⌜ r ≡ α s n ⌝ }
-{
-    power(s, 2, order(s) / n)
-}
-
-// The factor of the coset of r, whatever the slice held; its degree.
-fn factor(coefficients: &mut [u16], n: usize, s: usize, r: usize, a: u16) -> usize
-    requires { ⌜ CosetWalk n s r a × (12 < length (now coefficients)) ⌝ }
-    ensures { λ m. ⌜ CosetWalked n s r m (now (coefficients .exit)) ⌝ }
-{
-    one(coefficients);
-    coset_factor(coefficients, n, s, r, a)
-}
-
-// The product so far, of degree d, times the factor of the coset of r; its degree. The bits hold 0 before and after.
+// The product times the factor of the coset of r. The other slice holds 0 before and after.
 fn times_coset(
-    product: &mut [u8],
-    d: usize,
+    product: &mut [u64],
+    other: &mut [u64],
     n: usize,
     s: usize,
     r: usize,
-    a: u16,
-    coefficients: &mut [u16],
-    bits: &mut [u8],
-) -> usize
-    requires { ⌜ CosetWalk n s r a × (d ≤ n) × (12 < length (now coefficients)) × (n < length (now product)) × (n + 14 ≤ length (now bits)) ⌝ }
-    ensures { λ e. ⌜ Joined n r d e (now (product .entry)) (now (bits .entry)) (now (product .exit)) (now (bits .exit)) ⌝ }
+    exponent: usize,
+    powers: &[u16],
+    logs: &[u16],
+)
+    requires { ⌜ CosetOf n s r × (exponent ≡ (2 ^ s - 1) / n) × RoundWhereSmall s (now powers) (now logs) × (length (now other) ≡ length (now product)) × (packed (now other) ≡ 0) ⌝ }
+    ensures { λ _. ⌜ Multiplied (generator n (r ∷ [])) (now (product .entry)) (now (product .exit)) (now (other .exit)) ⌝ }
 {
-    let m = factor(coefficients, n, s, r, a);
-    binary::bits::multiply(bits, coefficients, m + 1, product, d + 1);
-    hand_over(bits, product, n + 1);
-    d + m
+    let f = coset_factor(n, s, r, exponent, powers, logs);
+    multiply(other, f.mask as u64, f.degree + 1, product);
+    hand_over(other, product);
 }
 
-// The generator of the code of length n with these representatives, in place of the product 1; its degree. The bits hold 0
-// before and after.
-pub fn generator(
+// The product times the generator of the code of length n with these representatives. The other slice holds 0 before and after.
+pub fn times_generator(
     representatives: &[u16],
     n: usize,
     s: usize,
-    product: &mut [u8],
-    factor: &mut [u16],
-    bits: &mut [u8],
-) -> usize
-    requires { ⌜ Lengths n s × Rising n (now representatives) × (12 < length (now factor)) × (n < length (now product)) × (n + 14 ≤ length (now bits)) × Building n 0 [] (now product) (now bits) ⌝ }
-    ensures { λ d. ⌜ Building n d (now (representatives .entry)) (now (product .exit)) (now (bits .exit)) ⌝ }
+    product: &mut [u64],
+    other: &mut [u64],
+    powers: &mut [u16],
+    logs: &mut [u16],
+)
+    requires { ⌜ Lengths n s × Rising n (now representatives) × (length (now other) ≡ length (now product)) × (packed (now other) ≡ 0) × RoomWhereSmall s (now powers) (now logs) ⌝ }
+    ensures { λ _. ⌜ Multiplied (generator n (now (representatives .entry))) (now (product .entry)) (now (product .exit)) (now (other .exit)) ⌝ }
 {
-    let first = alpha(n, s);
-    let mut d: usize = 0;
+    fill_where_small(s, powers, logs);
+    let exponent = order(s) / n;
     let mut i = representatives.len();
     while 0 < i {
         i = i - 1;
         let r = representatives[i] as usize;
-        let a = power(s, first, r);
-        d = times_coset(product, d, n, s, r, a, factor, bits);
+        times_coset(product, other, n, s, r, exponent, powers, logs);
     }
-    d
 }

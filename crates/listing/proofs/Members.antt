@@ -2,7 +2,7 @@
 --
 --   rows-flat        pieces in turn are a list of lists made flat
 --   members-are      the marked places are the defining set
---   digits-are      the entries of g are the coefficients of the generator
+--   digits-are      what g holds has the coefficients of the generator
 use mathlib.Core.Path.{_≡_, refl, sym, ap, ap₂, _∙_}
 use mathlib.Core.Bool.{Bool, true, false}
 use mathlib.Core.List.{List, [], _∷_, _++_, map, map-append, flatMap, append-assoc, append-nil}
@@ -20,7 +20,7 @@ use Rattle.document.proofs.Sane.{poly-length}
 use Rattle.document.proofs.Theory.{Length}
 use Rattle.document.proofs.GeneratorIs.{generator-digit, generator-is}
 use Rattle.sheet.specs.Stage.{Marks}
-use Rattle.binary.specs.Bits.{Holds}
+use Rattle.binary.specs.Packed.{packed}
 use Rattle.listing.specs.Text.{rows, member, memberIn, digitIn}
 
 -- ---- lists of lists
@@ -56,9 +56,9 @@ module _ {n : ℕ} {reps z : List ℕ} (h : Marks n reps z) where
   members-are = below n (omega arith)
 
 -- ---- the generator
-module _ {n : ℕ} (l : Length n) (reps : List ℕ) {g : List ℕ} (h : Holds (generator n reps) g) where
-  digit-is : (i : ℕ) → getD g i 0 ≡ getD (generatorPoly n reps) i 0
-  digit-is i = h .at i ∙ ap (coefficient i) (generator-is l reps) ∙ sym (generator-digit l reps i)
+module _ {n : ℕ} (l : Length n) (reps g : List ℕ) (h : packed g ≡ generator n reps) where
+  digit-is : (i : ℕ) → coefficient i (packed g) ≡ getD (generatorPoly n reps) i 0
+  digit-is i = ap (coefficient i) (h ∙ generator-is l reps) ∙ sym (generator-digit l reps i)
 
   first : (k : ℕ) → k ≤ length (generatorPoly n reps) → rows (digitIn g) k ≡ map (λ (c : ℕ). 48 + c) (take k (generatorPoly n reps))
   unfolding rows

@@ -72,7 +72,7 @@ module _ {x : Stated} {n k s working t count : ℕ} {w zeros g : List ℕ} (l : 
   unfolding generatorLine
   generator-is =
       ap (λ (y : List ℕ). generatorWord ++ y ++ newline)
-      (digits-are (l .length-of) (x .representatives) (l .holds) (ap (λ (y : ℕ). n - y) k-is)
+      (digits-are (l .length-of) (x .representatives) g (l .holds) (ap (λ (y : ℕ). n - y) k-is)
       ∙ ap (λ (y : ℕ). map (λ (c : ℕ). 48 + c) (generatorPoly y (x .representatives))) (l .n-is))
 
   line-is : (i : ℕ) → i < count → certificateRow w i ≡ certificateLine x i

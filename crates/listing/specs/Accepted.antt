@@ -17,7 +17,7 @@ use Rattle.document.specs.Card.{certificateText, acceptedLines}
 use Rattle.document.proofs.Theory.{Length}
 use Rattle.sheet.specs.Stage.{Marks, certificateIn}
 use Rattle.binary.specs.Factor.{degree}
-use Rattle.binary.specs.Bits.{Holds}
+use Rattle.binary.specs.Packed.{packed}
 use Rattle.listing.specs.Wrote.{Wrote}
 use Rattle.listing.specs.Text.{Ranges}
 
@@ -50,7 +50,7 @@ pub record Lists (x : Stated) (n k s working t count : ℕ) (w zeros g : List �
   pub count-is : count ≡ length (x .certificates)
   pub certificate-is : (i : ℕ) → i < count → certificateIn w i ≡ certificateAt x i
   pub marks : Marks n (x .representatives) zeros
-  pub holds : Holds (generator n (x .representatives)) g
+  pub holds : packed g ≡ generator n (x .representatives)
 
 pub record PageListed (n k s working t count : ℕ) (w zeros g out out′ : List ℕ) (r : ℕ) : Type 0 where
   pub is : (x : Stated) → Lists x n k s working t count w zeros g → Wrote (acceptedLines x) 0 out out′ r

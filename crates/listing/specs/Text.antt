@@ -3,13 +3,14 @@
 --   zerosText, generatorText         the lines by the slices that they are made of
 --   rows piece n                     the pieces 0 to n - 1
 --   member, memberIn z i             place i after a space, where it is marked
---   digitIn g i                      entry i of g as a digit
+--   digitIn g i                      coefficient i of what g holds as a digit
 --   codeTexts, Ranges                the first three lines, and what their numbers and slices are to satisfy
 use mathlib.Core.List.{List, [], _∷_, _++_}
 use Prim.Native.Nat.{ℕ, zero, suc, _+_, _-_, _≤_, _<_}
 use lib.ListN.{length, getD}
+use Rattle.field.specs.Mask.{coefficient}
+use Rattle.binary.specs.Packed.{packed, placesIn}
 use Rattle.document.specs.Card.{spaced, newline, zerosWord, generatorWord, codeText}
-use Rattle.codeword.specs.Place.{Binary}
 
 unfoldable pub rows : (ℕ → List ℕ) → ℕ → List ℕ
 rows piece zero = []
@@ -28,7 +29,7 @@ zerosText z n = zerosWord ++ rows (memberIn z) n ++ newline
 
 -- ---- the digits of the generator
 abbrev pub digitIn : List ℕ → ℕ → List ℕ
-digitIn g i = (48 + getD g i 0) ∷ []
+digitIn g i = (48 + coefficient i (packed g)) ∷ []
 
 -- of degree m
 abbrev pub generatorText : List ℕ → ℕ → List ℕ
@@ -43,5 +44,4 @@ pub record Ranges (n k s : ℕ) (zeros g : List ℕ) : Type 0 where
   pub dimension : k ≤ n
   pub degree : s < 10000
   pub marked : n ≤ length zeros
-  pub held : n < length g
-  pub binary : Binary g
+  pub held : n < placesIn g

@@ -2,7 +2,7 @@
 ghost use Prim.Native.Nat.{_+_, _*_, _<_, _≤_};
 ghost use lib.ListN.{length};
 ghost use Rattle.document.specs.Card.{codeText, certificateText, radiusText};
-ghost use Rattle.codeword.specs.Place.{Binary};
+ghost use Rattle.binary.specs.Packed.{placesIn};
 ghost use Rattle.listing.specs.Wrote.{Wrote};
 ghost use Rattle.listing.specs.Text.{zerosText, generatorText};
 use crate::piece::put;
@@ -32,8 +32,8 @@ pub fn zeros_line(out: &mut [u8], at: usize, n: usize, zeros: &[u8]) -> usize
 }
 
 // m is the generator's degree.
-pub fn generator_line(out: &mut [u8], at: usize, generator: &[u8], m: usize) -> usize
-    requires { ⌜ (at + m + 12 ≤ length (now out)) × (m < length (now generator)) × Binary (now generator) ⌝ }
+pub fn generator_line(out: &mut [u8], at: usize, generator: &[u64], m: usize) -> usize
+    requires { ⌜ (at + m + 12 ≤ length (now out)) × (m < placesIn (now generator)) ⌝ }
     ensures { λ r. ⌜ Wrote (generatorText (now (generator .entry)) m) at (now (out .entry)) (now (out .exit)) r × (r ≤ at + m + 12) ⌝ }
 {
     let word = put_text(out, at, b"generator ");

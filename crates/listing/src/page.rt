@@ -16,7 +16,14 @@ use certificate::check::distance_of;
 use sheet::certificates::certificate_at;
 
 // The lines of the code itself.
-fn code_lines(out: &mut [u8], n: usize, k: usize, s: usize, zeros: &[u8], generator: &[u8]) -> usize
+fn code_lines(
+    out: &mut [u8],
+    n: usize,
+    k: usize,
+    s: usize,
+    zeros: &[u8],
+    generator: &[u64],
+) -> usize
     requires { ⌜ (6 * n + 38 ≤ length (now out)) × Ranges n k s (now zeros) (now generator) ⌝ }
     ensures { λ r. ⌜ Wrote (codeTexts n k s (now (zeros .entry)) (now (generator .entry))) 0 (now (out .entry)) (now (out .exit)) r × (r ≤ 6 * n + 38) ⌝ }
 {
@@ -58,7 +65,7 @@ pub fn write_accepted(
     certificates: &[u16],
     count: usize,
     zeros: &[u8],
-    generator: &[u8],
+    generator: &[u64],
     out: &mut [u8],
 ) -> usize
     requires { ⌜ Listable n k s working t count (now certificates) (now zeros) (now generator) × (6 * n + 35 * count + 65 ≤ length (now out)) ⌝ }

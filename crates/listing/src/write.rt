@@ -1,11 +1,12 @@
 // The members of D, and the digits of the generator.
 ghost use Prim.Native.Nat.{_+_, _*_, _<_, _≤_};
 ghost use lib.ListN.{length};
-ghost use Rattle.codeword.specs.Place.{Binary};
+ghost use Rattle.binary.specs.Packed.{placesIn};
 ghost use Rattle.listing.specs.Wrote.{Wrote};
 ghost use Rattle.listing.specs.Text.{rows, member, memberIn, digitIn};
 use crate::piece::put;
 use crate::piece::put_spaced;
+use binary::packed::coefficient_at;
 
 // Place i, where it is marked.
 fn put_member(out: &mut [u8], at: usize, i: usize, mark: usize) -> usize
@@ -34,14 +35,14 @@ pub fn put_members(out: &mut [u8], at: usize, n: usize, zeros: &[u8]) -> usize
 }
 
 // The first coefficients of the generator, from x^0 up.
-pub fn put_digits(out: &mut [u8], at: usize, generator: &[u8], count: usize) -> usize
-    requires { ⌜ (at + count ≤ length (now out)) × (count ≤ length (now generator)) × Binary (now generator) ⌝ }
+pub fn put_digits(out: &mut [u8], at: usize, generator: &[u64], count: usize) -> usize
+    requires { ⌜ (at + count ≤ length (now out)) × (count ≤ placesIn (now generator)) ⌝ }
     ensures { λ r. ⌜ Wrote (rows (digitIn (now (generator .entry))) count) at (now (out .entry)) (now (out .exit)) r × (r ≤ at + count) ⌝ }
 {
     let mut end = at;
     let mut j: usize = 0;
     while j < count {
-        let digit = generator[j] as usize;
+        let digit = coefficient_at(generator, j) as usize;
         end = put(out, end, 48 + digit);
         j = j + 1;
     }

@@ -1,33 +1,47 @@
--- `code::card::card_accepted` meets its contract: generator, marks and record, written.
 use native.Mathlib.Omega.{arith}
+use mathlib.Core.Path.{sym, ap}
+use Prim.Native.Nat.{ℕ, _*_}
+use lib.ListN.{length-replicate}
 use Rattle.codeword.proofs.Words.{lengths-of, fresh}
-use Rattle.generator.proofs.Assembly.{building-start}
+use Rattle.generator.proofs.Assembly.{multiplied-one}
 use Rattle.code.proofs.Ready.{clean, page-needs, card-listed}
 use borrow.Author.Needs.{needs}
 use Rattle.code.proofs.card.card_accepted.Statement.{statement}
 use Rattle.code.proofs.card.card_accepted.Tie as tie
+use Rattle.code.proofs.card.card_accepted.Reads as reads
+use Rattle.code.proofs.card.card_accepted.Lts as lts
+use Rattle.binary.proofs.packed.power_of_x.Reads as power-of-x-reads
+use Rattle.code.proofs.card.mark_set.Reads as mark-set-reads
+use Rattle.generator.proofs.generator.times_generator.Reads as times-generator-reads
+use Rattle.listing.proofs.page.write_accepted.Reads as write-accepted-reads
 
-array-write-generator : tie.Need-array-write-generator
-array-write-generator c = search needs
+slice-aggregate-power-of-x : tie.Need-slice-aggregate-power-of-x
+slice-aggregate-power-of-x c = search needs
 
-slice-aggregate-generator : tie.Need-slice-aggregate-generator
-slice-aggregate-generator c = search needs
+power-of-x-requires : tie.Need-power-of-x-requires
+power-of-x-requires c κs = let p = c .before .before .before .before .pre .0 in fresh 2 255 256 (p .usable .coded) (omega arith) (omega (arith, p .most)) (omega arith) (omega arith) (omega arith) .none
 
-slice-aggregate-generator-2 : tie.Need-slice-aggregate-generator-2
-slice-aggregate-generator-2 c = search needs
+slice-aggregate-times-generator : tie.Need-slice-aggregate-times-generator
+slice-aggregate-times-generator c = search needs
 
-slice-aggregate-generator-3 : tie.Need-slice-aggregate-generator-3
-slice-aggregate-generator-3 c = search needs
+slice-aggregate-times-generator-2 : tie.Need-slice-aggregate-times-generator-2
+slice-aggregate-times-generator-2 c = search needs
 
-generator-requires : tie.Need-generator-requires
-generator-requires c κs = let p = c .before .before .before .before .before .before .pre .0 in let f = fresh 127 16 144 (p .most) (omega arith) (omega (arith, p .most)) in
-    (lengths-of (p .usable .coded), p .usable .coded .rising, f .p-long, f .g-long, f .w-long, building-start (f .one) (f .zero))
+slice-aggregate-times-generator-3 : tie.Need-slice-aggregate-times-generator-3
+slice-aggregate-times-generator-3 c = search needs
+
+slice-aggregate-times-generator-4 : tie.Need-slice-aggregate-times-generator-4
+slice-aggregate-times-generator-4 c = search needs
+
+times-generator-requires : tie.Need-times-generator-requires
+times-generator-requires c κs = let p = c .before .before .before .before .before .before .before .before .before .before .pre .0 in let f = fresh 2 255 256 (p .usable .coded) (omega arith) (omega (arith, p .most)) (omega arith) (omega arith) (omega arith) in
+    (lengths-of (p .usable .coded), p .usable .coded .rising, sym (c .before .before .before .before .before .power-of-x .kept .0), f .empty, f .tables)
 
 slice-aggregate-mark-set : tie.Need-slice-aggregate-mark-set
 slice-aggregate-mark-set c = search needs
 
 mark-set-requires : tie.Need-mark-set-requires
-mark-set-requires c κs = let p = c .before .before .before .before .before .before .before .before .before .before .before .pre .0 in (p .usable .coded, clean (c .before .before .before .before .generator2 .ensures .clear) (omega (arith, p .most, c .before .before .before .before .generator2 .kept .1 .1 .1 .1 .1 .0)))
+mark-set-requires c κs = let p = c .before .before .before .before .before .before .before .before .before .before .before .before .before .before .before .before .pre .0 in (p .usable .coded, clean 128 (omega (arith, p .most)))
 
 slice-aggregate-write-accepted : tie.Need-slice-aggregate-write-accepted
 slice-aggregate-write-accepted c = search needs
@@ -36,8 +50,8 @@ slice-aggregate-write-accepted-2 : tie.Need-slice-aggregate-write-accepted-2
 slice-aggregate-write-accepted-2 c = search needs
 
 write-accepted-requires : tie.Need-write-accepted-requires
-write-accepted-requires c κs = let p = c .before .before .before .before .before .before .before .before .before .before .before .before .before .before .before .before .pre in (
-  page-needs (p .0) (c .before .before .before .before .mark-set .ensures) (c .before .before .before .before .before .before .before .before .before .generator2 .ensures) (omega (arith, p .0 .most, c .before .before .before .before .before .before .before .before .before .generator2 .kept .1 .1 .1 .0)),
+write-accepted-requires c κs = let p = c .before .before .before .before .before .before .before .before .before .before .before .before .before .before .before .before .before .before .before .before .before .pre in (
+  page-needs (p .0) (c .before .before .before .before .mark-set .ensures) (omega (arith, p .0 .most, c .before .before .before .before .before .before .before .before .before .before .times-generator .kept .1 .1 .1 .0, c .before .before .before .before .before .before .before .before .before .before .before .before .before .before .before .before .power-of-x .kept .0, length-replicate {A = ℕ} 2 0)),
   omega (arith, p .0 .most, p .0 .few, p .1),
 )
 
@@ -45,17 +59,19 @@ same-length : tie.Need-same-length
 same-length c = c .before .before .write-accepted .kept .1 .1 .1 .1 .1 .1 .1 .1 .1 .0
 
 returns : tie.Need-returns
-returns c = card-listed (c .before .before .before .before .before .before .before .before .before .before .before .before .before .before .before .before .before .before .before .pre .0) (c .before .before .before .before .before .before .before .mark-set .ensures) (c .before .before .before .before .before .before .before .before .before .before .before .before .generator2 .ensures) (c .before .before .write-accepted .ensures)
+returns c = let p = c .before .before .before .before .before .before .before .before .before .before .before .before .before .before .before .before .before .before .before .before .before .before .before .before .pre .0 in card-listed p (c .before .before .before .before .before .before .before .mark-set .ensures) (multiplied-one (c .before .before .before .before .before .before .before .before .before .before .before .before .before .before .before .before .before .before .before .before .before .before .before .before .args .representatives .now) (p .usable .coded .length-of) (omega (arith, p .most, length-replicate {A = ℕ} 2 0)) (ap (λ (x : ℕ). 64 * x) (sym (c .before .before .before .before .before .before .before .before .before .before .before .before .before .before .before .before .before .before .before .power-of-x .kept .0))) (c .before .before .before .before .before .before .before .before .before .before .before .before .before .before .before .before .before .before .before .power-of-x .ensures) (c .before .before .before .before .before .before .before .before .before .before .before .before .before .times-generator .ensures)) (c .before .before .write-accepted .ensures)
 
 pub card-accepted-spec : {M : Type 1} → statement M
 card-accepted-spec =
     tie.close
     (tie.spec
-    array-write-generator
-    slice-aggregate-generator
-    slice-aggregate-generator-2
-    slice-aggregate-generator-3
-    generator-requires
+    slice-aggregate-power-of-x
+    power-of-x-requires
+    slice-aggregate-times-generator
+    slice-aggregate-times-generator-2
+    slice-aggregate-times-generator-3
+    slice-aggregate-times-generator-4
+    times-generator-requires
     slice-aggregate-mark-set
     mark-set-requires
     slice-aggregate-write-accepted

@@ -1,53 +1,54 @@
--- `codeword::test::no_codeword` meets its contract: the remainder by the generator is 0 exactly for codewords.
 use native.Mathlib.Omega.{arith}
-use Rattle.generator.proofs.Assembly.{building-start}
+use mathlib.Core.Path.{sym, ap, _∙_}
+use Prim.Native.Nat.{ℕ, _-_}
 use Rattle.codeword.proofs.Places.{for-le}
-use Rattle.codeword.proofs.Words.{lengths-of, checks-le, tested}
+use Rattle.codeword.proofs.Words.{tested}
 use borrow.Author.Needs.{needs}
 use Rattle.codeword.proofs.test.no_codeword.Statement.{statement}
 use Rattle.codeword.proofs.test.no_codeword.Tie as tie
+use Rattle.codeword.proofs.test.no_codeword.Reads as reads
+use Rattle.codeword.proofs.test.no_codeword.Lts as lts
+use Rattle.binary.proofs.packed.is_zero.Reads as is-zero-reads
+use Rattle.codeword.proofs.remainder.make_feedback.Reads as make-feedback-reads
+use Rattle.codeword.proofs.remainder.take_word.Reads as take-word-reads
 
-generator-requires : tie.Need-generator-requires
-generator-requires c κs = let r = c .before .before .before .before .before .before .before .before .pre in let f = r .2 in (lengths-of (r .0), r .0 .rising, f .p-long, f .g-long, f .w-long, building-start (f .one) (f .zero))
+sub-make-feedback : tie.Need-sub-make-feedback
+sub-make-feedback c = search needs
 
-spread-word-requires : tie.Need-spread-word-requires
-spread-word-requires c κs = let r = c .before .before .before .before .before .before .before .before .before .before .before .before .before .before .before .before .pre in (
-  omega (arith, r .1, for-le (c .before .before .before .before .before .before .before .before .before .before .before .before .before .before .before .before .args .n)),
-  omega (arith, r .2 .w-long, c .before .before .before .before .before .before .before .generator .kept .1 .1 .1 .1 .1 .0),
-  omega (arith, r .0 .length-of .odd .most),
-)
+make-feedback-requires : tie.Need-make-feedback-requires
+make-feedback-requires c κs = let p = c .before .before .before .before .before .before .before .before .before .before .pre in (p .0 .coded, ap (λ (x : ℕ). c .before .before .before .before .before .before .before .before .before .before .args .n - x) (p .0 .k-is), p .2)
 
-divide-requires : tie.Need-divide-requires
-divide-requires c κs = let r = c .before .before .before .before .before .before .before .before .before .before .before .before .before .before .before .before .before .before .before .before .before .pre in (
-  omega (arith, r .2 .w-long, c .before .before .before .before .before .before .before .before .before .before .before .before .generator .kept .1 .1 .1 .1 .1 .0, c .before .before .before .before .spread-word .kept .1 .1 .1 .0),
-  omega (arith, checks-le (r .0) (c .before .before .before .before .before .before .before .before .before .before .before .before .generator .ensures), r .2 .g-long, c .before .before .before .before .before .before .before .before .before .before .before .before .generator .kept .1 .1 .1 .0),
-)
+take-word-requires : tie.Need-take-word-requires
+take-word-requires c κs = let p = c .before .before .before .before .before .before .before .before .before .before .before .before .before .before .before .before .before .before .before .before .before .pre in let k = c .before .before .before .before .before .before .before .before .before .before .make-feedback .kept in (omega (arith, p .1, for-le (c .before .before .before .before .before .before .before .before .before .before .before .before .before .before .before .before .before .before .before .before .before .args .n)), omega (arith, p .2 .some, p .2 .long, k .1 .1 .1 .1 .1 .0), k .1 .1 .1 .1 .1 .0 ∙ p .2 .long ∙ sym (k .1 .1 .1 .1 .0), c .before .before .before .before .before .before .before .before .before .before .make-feedback .ensures .empty)
 
-any-requires : tie.Need-any-requires
-any-requires c κs = let r = c .before .before .before .before .before .before .before .before .before .before .before .before .before .before .before .before .before .before .before .before .before .before .before .before .before .pre in let q = checks-le (r .0) (c .before .before .before .before .before .before .before .before .before .before .before .before .before .before .before .before .generator .ensures) in
-    omega (arith, q, r .2 .w-long, c .before .before .before .before .before .before .before .before .before .before .before .before .before .before .before .before .generator .kept .1 .1 .1 .1 .1 .0, c .before .before .before .before .before .before .before .before .spread-word .kept .1 .1 .1 .0, c .before .before .before .divide .kept .0)
+is-zero-requires : tie.Need-is-zero-requires
+is-zero-requires c κs = search needs
 
 same-length : tie.Need-same-length
-same-length c = search needs
+same-length c = c .before .before .before .before .before .before .before .before .before .before .before .before .before .before .before .make-feedback .kept .1 .1 .1 .1 .0
 
 same-length-2 : tie.Need-same-length-2
-same-length-2 c = search needs
+same-length-2 c = c .before .before .before .before .take-word .kept .1 .1 .1 .0 ∙ c .before .before .before .before .before .before .before .before .before .before .before .before .before .before .before .make-feedback .kept .1 .1 .1 .1 .1 .0
 
 same-length-3 : tie.Need-same-length-3
-same-length-3 c = search needs
+same-length-3 c = c .before .before .before .before .before .before .before .before .before .before .before .before .before .before .before .make-feedback .kept .1 .1 .1 .1 .1 .1 .0
+
+same-length-4 : tie.Need-same-length-4
+same-length-4 c = c .before .before .before .before .before .before .before .before .before .before .before .before .before .before .before .make-feedback .kept .1 .1 .1 .1 .1 .1 .1 .0
 
 returns : tie.Need-returns
-returns c = tested (c .before .before .before .before .before .before .before .before .before .before .before .before .before .before .before .before .before .before .before .before .before .before .before .before .before .before .pre .0) (c .before .before .before .before .before .before .before .before .before .before .before .before .before .before .before .before .before .generator .ensures) (c .before .before .before .before .before .before .before .before .before .spread-word .ensures) (c .before .before .before .before .divide .ensures) (c .any .ensures)
+returns c = tested (c .before .before .before .before .before .before .before .before .before .before .before .before .before .before .before .before .before .before .before .before .before .before .before .before .before .before .pre .0 .coded .length-of) (c .before .before .before .before .before .before .before .before .before .before .before .before .before .before .before .make-feedback .ensures) (c .before .before .before .before .take-word .ensures) (c .is-zero .ensures)
 
 pub no-codeword-spec : {M : Type 1} → statement M
 no-codeword-spec =
     tie.close
     (tie.spec
-    generator-requires
-    spread-word-requires
-    divide-requires
-    any-requires
+    sub-make-feedback
+    make-feedback-requires
+    take-word-requires
+    is-zero-requires
     same-length
     same-length-2
     same-length-3
+    same-length-4
     returns)

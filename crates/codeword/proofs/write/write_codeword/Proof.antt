@@ -1,56 +1,63 @@
--- `codeword::write::write_codeword` meets its contract: generator, places, bytes.
 use native.Mathlib.Omega.{arith}
-use Rattle.generator.proofs.Assembly.{building-start}
-use Rattle.codeword.proofs.Spreading.{held-binary}
-use Rattle.codeword.proofs.Words.{lengths-of, checks-le, whole, encoded-holds, encoded-bytes, for-most}
+use mathlib.Core.Path.{refl, sym, ap, _∙_}
+use Prim.Native.Nat.{ℕ, _-_}
+use Rattle.codeword.proofs.Places.{for-le}
+use Rattle.codeword.proofs.Words.{for-most, encoded-bytes}
 use borrow.Author.Needs.{needs}
 use Rattle.codeword.proofs.write.write_codeword.Statement.{statement}
 use Rattle.codeword.proofs.write.write_codeword.Tie as tie
+use Rattle.codeword.proofs.write.write_codeword.Reads as reads
+use Rattle.codeword.proofs.write.write_codeword.Lts as lts
+use Rattle.codeword.proofs.remainder.make_feedback.Reads as make-feedback-reads
+use Rattle.codeword.proofs.remainder.take_message.Reads as take-message-reads
+use Rattle.codeword.proofs.write.write_places.Reads as write-places-reads
 
-generator-requires : tie.Need-generator-requires
-generator-requires c κs = let r = c .before .before .before .before .before .before .before .before .before .pre in let f = r .2 in (lengths-of (r .0 .coded), r .0 .coded .rising, f .p-long, f .g-long, f .w-long, building-start (f .one) (f .zero))
+sub-make-feedback : tie.Need-sub-make-feedback
+sub-make-feedback c = search needs
 
-codeword-places-requires : tie.Need-codeword-places-requires
-codeword-places-requires c κs = let r = c .before .before .before .before .before .before .before .before .before .before .before .before .before .before .before .before .before .before .pre in let b = c .before .before .before .before .before .before .before .before .generator .ensures in (
-  whole (r .0 .coded) b (r .0 .k-is),
-  r .1 .message-long,
-  omega (arith, checks-le (r .0 .coded) b, r .2 .g-long, c .before .before .before .before .before .before .before .before .generator .kept .1 .1 .1 .0),
-  omega (arith, r .2 .w-long, c .before .before .before .before .before .before .before .before .generator .kept .1 .1 .1 .1 .1 .0),
-)
+make-feedback-requires : tie.Need-make-feedback-requires
+make-feedback-requires c κs = let p = c .before .before .before .before .before .before .before .before .before .before .before .pre in (p .0 .coded, ap (λ (x : ℕ). c .before .before .before .before .before .before .before .before .before .before .before .args .n - x) (p .0 .k-is), p .2)
 
-pack-word-requires : tie.Need-pack-word-requires
-pack-word-requires c κs = let r = c .before .before .before .before .before .before .before .before .before .before .before .before .before .before .before .before .before .before .before .before .before .before .before .pre in (
-  held-binary (encoded-holds (r .0) (c .before .before .before .before .before .before .before .before .before .before .before .before .before .generator .ensures) (c .before .before .before .before .codeword-places .ensures)),
-  omega (arith, r .1 .out-long, for-most (c .before .before .before .before .before .before .before .before .before .before .before .before .before .before .before .before .before .before .before .before .before .before .before .args .n), r .2 .w-long, c .before .before .before .before .codeword-places .kept .1 .1 .1 .1 .1 .0, c .before .before .before .before .before .before .before .before .before .before .before .before .before .generator .kept .1 .1 .1 .1 .1 .0),
-  omega (arith, r .1 .out-long, for-most (c .before .before .before .before .before .before .before .before .before .before .before .before .before .before .before .before .before .before .before .before .before .before .before .args .n), r .0 .coded .length-of .odd .most),
-)
+take-message-requires : tie.Need-take-message-requires
+take-message-requires c κs = let p = c .before .before .before .before .before .before .before .before .before .before .before .before .before .before .before .before .before .before .before .before .before .before .pre in let k = c .before .before .before .before .before .before .before .before .before .before .make-feedback .kept in (omega (arith, p .1 .message-long, for-le (c .before .before .before .before .before .before .before .before .before .before .before .before .before .before .before .before .before .before .before .before .before .before .args .k)), omega (arith, p .2 .some, p .2 .long, k .1 .1 .1 .1 .1 .0), k .1 .1 .1 .1 .1 .0 ∙ p .2 .long ∙ sym (k .1 .1 .1 .1 .0), c .before .before .before .before .before .before .before .before .before .before .make-feedback .ensures .empty)
+
+sub-write-places : tie.Need-sub-write-places
+sub-write-places c = search needs
+
+write-places-requires : tie.Need-write-places-requires
+write-places-requires c κs = let p = c .before .before .before .before .before .before .before .before .before .before .before .before .before .before .before .before .before .before .before .before .before .before .before .before .before .before .before .pre in let a = c .before .before .before .before .before .before .before .before .before .before .before .before .before .before .before .before .before .before .before .before .before .before .before .before .before .before .before .args in let l = c .before .before .before .before .take-message .kept .1 .1 .1 .0 ∙ c .before .before .before .before .before .before .before .before .before .before .before .before .before .before .before .make-feedback .kept .1 .1 .1 .1 .1 .0 ∙ p .2 .long in
+    (omega (arith, l, p .2 .room), omega (arith, l, p .2 .fits), omega (arith, p .1 .out-long, p .1 .message-long, for-most (a .n), for-le (a .k), p .0 .k-le), omega (arith, p .1 .out-long, for-most (a .n), p .2 .room, p .2 .fits), omega (arith, p .1 .message-long, for-le (a .k), p .0 .k-pos))
 
 same-length : tie.Need-same-length
-same-length c = c .before .before .pack-word .kept .1 .0
+same-length c = c .before .before .write-places .kept .1 .1 .1 .0
 
 same-length-2 : tie.Need-same-length-2
-same-length-2 c = c .before .before .before .before .before .before .before .before .before .before .before .before .before .before .before .before .generator .kept .1 .1 .1 .0
+same-length-2 c = c .before .before .before .before .before .before .before .before .before .before .before .before .before .before .before .before .before .before .make-feedback .kept .1 .1 .1 .1 .0
 
 same-length-3 : tie.Need-same-length-3
-same-length-3 c = c .before .before .before .before .before .before .before .before .before .before .before .before .before .before .before .before .generator .kept .1 .1 .1 .1 .0
+same-length-3 c = c .before .before .before .before .before .before .before .take-message .kept .1 .1 .1 .0 ∙ c .before .before .before .before .before .before .before .before .before .before .before .before .before .before .before .before .before .before .make-feedback .kept .1 .1 .1 .1 .1 .0
 
 same-length-4 : tie.Need-same-length-4
-same-length-4 c = search needs
+same-length-4 c = c .before .before .before .before .before .before .before .before .before .before .before .before .before .before .before .before .before .before .make-feedback .kept .1 .1 .1 .1 .1 .1 .0
+
+same-length-5 : tie.Need-same-length-5
+same-length-5 c = c .before .before .before .before .before .before .before .before .before .before .before .before .before .before .before .before .before .before .make-feedback .kept .1 .1 .1 .1 .1 .1 .1 .0
 
 returns : tie.Need-returns
-returns c = let r = c .before .before .before .before .before .before .before .before .before .before .before .before .before .before .before .before .before .before .before .before .before .before .before .before .before .before .pre in
-    encoded-bytes (r .0) (c .before .before .before .before .before .before .before .before .before .before .before .before .before .before .before .before .generator .ensures) (c .before .before .before .before .before .before .before .codeword-places .ensures) (c .before .before .pack-word .ensures)
-    (omega (arith, r .1 .out-long, c .before .before .pack-word .kept .1 .0)) (λ i. omega (arith, c .slice-known9 .given i))
+returns c = let p = c .before .before .before .before .before .before .before .before .before .before .before .before .before .before .before .before .before .before .before .before .before .before .before .before .before .before .before .before .before .before .pre in encoded-bytes (p .0) (p .1) refl (c .before .before .before .before .before .before .before .before .before .before .before .before .before .before .before .before .before .before .make-feedback .ensures) (c .before .before .before .before .before .before .before .take-message .ensures) (c .before .before .write-places .ensures) (c .before .before .write-places .kept .1 .1 .1 .0) (λ i. omega (arith, c .slice-known11 .given i))
 
 pub write-codeword-spec : {M : Type 1} → statement M
 write-codeword-spec =
     tie.close
     (tie.spec
-    generator-requires
-    codeword-places-requires
-    pack-word-requires
+    sub-make-feedback
+    make-feedback-requires
+    take-message-requires
+    sub-write-places
+    write-places-requires
     same-length
     same-length-2
     same-length-3
     same-length-4
+    same-length-5
     returns)

@@ -1,29 +1,71 @@
--- `codeword::write::write_message` meets its contract: the places from m on are the mask's quotient by x^m.
+use borrow.Author.Needs.{needs}
 use native.Mathlib.Omega.{arith}
-use mathlib.Core.Path.{refl}
-use Prim.Native.Nat.{_+_}
-use Rattle.codeword.proofs.Places.{for-le}
-use Rattle.codeword.proofs.Spreading.{spread-part, held-binary}
-use Rattle.codeword.proofs.Words.{message-read, for-most}
+use mathlib.Core.Path.{_≡_, refl, sym, _∙_, subst}
+use Prim.Native.Nat.{ℕ, _+_, _-_, _≤_, _<_}
+use lib.ListN.{length, length-set}
+use Rattle.document.specs.Layout.{wordWeight, bytesFor}
+use Rattle.codeword.proofs.Places.{place-lt, for-le}
+use Rattle.codeword.proofs.Words.{Reading, reading-start, reading-more, reading-end}
 use Rattle.codeword.proofs.write.write_message.Statement.{statement}
 use Rattle.codeword.proofs.write.write_message.Tie as tie
+use Rattle.codeword.proofs.write.write_message.Reads as reads
+use Rattle.codeword.proofs.write.write_message.Lts as lts
+use Rattle.codeword.proofs.layout.set_message_place.Reads as set-message-place-reads
+use Rattle.codeword.proofs.layout.word_place.Reads as word-place-reads
 
-spread-word-requires : tie.Need-spread-word-requires
-spread-word-requires c κs = let r = c .before .before .before .before .pre in (omega (arith, r .word-long, for-le (c .before .before .before .before .args .m + c .before .before .before .before .args .k)), omega (arith, r .w-long), omega (arith, r .most))
+abbrev Inv-loop : tie.InvT-loop
+Inv-loop word m k out₀ i₀ out i = (length word ≡ bytesFor (m + k)) × (m + k ≤ 65535) × (length out₀ ≡ bytesFor k) × (length out ≡ length out₀) × (i ≤ k) × Reading m k word i out
 
-pack-message-requires : tie.Need-pack-message-requires
-pack-message-requires c κs = let r = c .before .before .before .before .before .before .before .before .before .pre in (held-binary (spread-part refl (c .before .before .before .before .spread-word .ensures) (r .clear)), omega (arith, r .out-long, for-most (c .before .before .before .before .before .before .before .before .before .args .k), r .w-long, c .before .before .before .before .spread-word .kept .1 .1 .1 .0), omega (arith, r .out-long, for-most (c .before .before .before .before .before .before .before .before .before .args .k), r .most))
+abbrev μ-loop : tie.MeasureT-loop
+μ-loop word m k out₀ i₀ out i = k - i
 
-same-length : tie.Need-same-length
-same-length c = c .before .before .before .before .before .before .before .spread-word .kept .1 .1 .1 .0
+sub-out : tie.Need-sub-out Inv-loop μ-loop
+sub-out c = let p = c .before .before .pre in omega (arith, p .out-long, p .k-pos, for-le (c .before .before .args .k))
 
-same-length-2 : tie.Need-same-length-2
-same-length-2 c = c .before .before .pack-message .kept .1 .0
+slice-write-out : tie.Need-slice-write-out Inv-loop μ-loop
+slice-write-out c = let p = c .before .before .pre in omega (arith, p .out-long, p .k-pos, for-le (c .before .before .args .k))
 
-returns : tie.Need-returns
-returns c = let r = c .before .before .before .before .before .before .before .before .before .before .before .before .pre in message-read (c .before .before .before .before .before .before .before .spread-word .ensures) (c .before .before .pack-message .ensures) (r .clear) (omega (arith, r .out-long, c .before .before .pack-message .kept .1 .0)) (λ i. omega (arith, c .slice-known4 .given i))
+loop-holds : tie.Need-loop-holds Inv-loop μ-loop
+loop-holds c = let p = c .before .before .pre in (p .word-long, p .most, simp length-set (p .out-long), refl, omega arith, reading-start (c .before .before .args .out .now) (p .k-pos) (p .out-long) refl (λ x. omega (arith, c .slice-known .given x)))
+
+add-word-place : tie.Need-add-word-place Inv-loop μ-loop
+add-word-place c = let v = c .before .before .loop .inv in omega (arith, v .1, v .4)
+
+word-place-requires : tie.Need-word-place-requires Inv-loop μ-loop
+word-place-requires c κs = let v = c .before .before .loop .inv in omega (arith, v .0, for-le (c .before .before .before .before .before .args .m + c .before .before .before .before .before .args .k))
+
+set-message-place-requires : tie.Need-set-message-place-requires Inv-loop μ-loop
+set-message-place-requires c κs = let v = c .before .before .before .loop .inv in (omega (arith, v .2, v .3, for-le (c .before .before .before .before .before .before .args .k)), subst (λ (x : ℕ). x < 2) (sym (c .word-place .ensures)) (place-lt wordWeight (c .before .before .before .before .before .before .args .word .now) (c .before .before .before .before .before .before .args .m + c .before .before .before .loop .i)))
+
+add-i : tie.Need-add-i Inv-loop μ-loop
+add-i c = let v = c .before .before .before .before .before .before .loop .inv in omega (arith, v .1, v .4)
+
+loop-less : tie.Need-loop-less Inv-loop μ-loop
+loop-less c = omega arith
+
+loop-again : tie.Need-loop-again Inv-loop μ-loop
+loop-again c = let v = c .before .before .before .before .before .before .loop .inv in (v .0, v .1, v .2, c .before .before .set-message-place .kept .0 ∙ v .3, omega arith, reading-more (c .before .before .before .before .before .loop-test .taken) refl (c .before .before .before .word-place .ensures) (v .5) (c .before .before .set-message-place .ensures) (λ x. omega (arith, c .slice-known2 .given x)))
+
+same-length : tie.Need-same-length Inv-loop μ-loop
+same-length c = let v = c .before .loop .inv in v .3 ∙ simp length-set
+
+returns : tie.Need-returns Inv-loop μ-loop
+returns c = let v = c .before .loop .inv in reading-end (omega arith) (v .3 ∙ v .2) (v .5)
 
 pub write-message-spec : {M : Type 1} → statement M
 write-message-spec =
     tie.close
-    (tie.spec spread-word-requires pack-message-requires same-length same-length-2 returns)
+    (tie.spec
+    Inv-loop
+    μ-loop
+    sub-out
+    slice-write-out
+    loop-holds
+    add-word-place
+    word-place-requires
+    set-message-place-requires
+    add-i
+    loop-less
+    loop-again
+    same-length
+    returns)

@@ -6,13 +6,13 @@ use lib.ListN.{length, length-set}
 use Rattle.field.specs.Field.{Degree}
 use Rattle.field.proofs.Primitive.{Degree-bounds}
 use Rattle.field.specs.Tables.{Powers}
-use Rattle.field.proofs.Filling.{powers-round, filled, fillable-kept}
+use Rattle.field.proofs.Filling.{powers-round, filled, fillable-kept, round-fillable}
 use Rattle.field.proofs.tables.fill.Statement.{statement}
 use Rattle.field.proofs.tables.fill.Tie as tie
 use Rattle.field.proofs.tables.fill.Reads as reads
 use Rattle.field.proofs.tables.fill.Lts as lts
 use Rattle.field.proofs.product.order.Reads as order-reads
-use Rattle.field.proofs.tables.once.Reads as once-reads
+use Rattle.field.proofs.tables.fill_round.Reads as fill-round-reads
 
 abbrev Inv-loop : tie.InvT-loop
 Inv-loop s powers₀ logs n end i₀ powers i = Degree s × (n ≡ 2 ^ s - 1) × (end ≡ 5 * n) × (5 * (2 ^ s - 1) ≤ length powers₀) × (length powers ≡ length powers₀) × (n ≤ i) × (i ≤ end) × Powers s i powers × (4 ≤ 2 ^ s) × (2 ^ s ≤ 4096)
@@ -23,14 +23,14 @@ abbrev μ-loop : tie.MeasureT-loop
 order-requires : tie.Need-order-requires Inv-loop μ-loop
 order-requires c κs = c .before .before .pre .degree
 
-once-requires : tie.Need-once-requires Inv-loop μ-loop
-once-requires c κs = (c .before .before .before .before .before .pre, c .before .before .order .ensures)
+fill-round-requires : tie.Need-fill-round-requires Inv-loop μ-loop
+fill-round-requires c κs = (round-fillable (c .before .before .before .before .before .pre), c .before .before .order .ensures)
 
 cast-logs : tie.Need-cast-logs Inv-loop μ-loop
 cast-logs c = omega (arith, Degree-bounds (c .before .before .before .before .before .before .before .before .before .before .pre .degree) .1, c .before .before .before .before .before .before .before .order .ensures)
 
 slice-write-logs : tie.Need-slice-write-logs Inv-loop μ-loop
-slice-write-logs c = let p = c .before .before .before .before .before .before .before .before .before .before .pre in omega (arith, Degree-bounds (p .degree) .0, p .g-long, c .before .before .before .before .once .kept .1 .1 .1 .0)
+slice-write-logs c = let p = c .before .before .before .before .before .before .before .before .before .before .pre in omega (arith, Degree-bounds (p .degree) .0, p .g-long, c .before .before .before .before .fill-round .kept .1 .1 .1 .0)
 
 mul-end : tie.Need-mul-end Inv-loop μ-loop
 mul-end c = omega (arith, Degree-bounds (c .before .before .before .before .before .before .before .before .before .before .pre .degree) .1, c .before .before .before .before .before .before .before .order .ensures)
@@ -40,11 +40,11 @@ loop-holds c = let p = c .before .before .before .before .before .before .before
   p .degree,
   c .before .before .before .before .before .before .before .order .ensures,
   refl,
-  omega (arith, p .e-long, c .before .before .before .before .once .kept .1 .1 .0),
+  omega (arith, p .e-long, c .before .before .before .before .fill-round .kept .1 .1 .0),
   refl,
   omega arith,
   omega (arith, c .before .before .before .before .before .before .before .order .ensures),
-  c .before .before .before .before .once .ensures .0,
+  c .before .before .before .before .fill-round .ensures .0,
   b .0,
   b .1,
 )
@@ -85,14 +85,14 @@ loop-again c = let v = c .before .before .loop .inv in (
 )
 
 same-length : tie.Need-same-length Inv-loop μ-loop
-same-length c = c .before .loop .inv .4 ∙ c .before .before .before .before .before .before .once .kept .1 .1 .0
+same-length c = c .before .loop .inv .4 ∙ c .before .before .before .before .before .before .fill-round .kept .1 .1 .0
 
 same-length-2 : tie.Need-same-length-2 Inv-loop μ-loop
-same-length-2 c = simp length-set (c .before .before .before .before .before .before .once .kept .1 .1 .1 .0)
+same-length-2 c = simp length-set (c .before .before .before .before .before .before .fill-round .kept .1 .1 .1 .0)
 
 returns : tie.Need-returns Inv-loop μ-loop
 returns c = let v = c .before .loop .inv in
-    filled (fillable-kept (v .4 ∙ c .before .before .before .before .before .before .once .kept .1 .1 .0) (c .before .before .before .before .before .before .once .kept .1 .1 .1 .0) (c .before .before .before .before .before .before .before .before .before .before .before .before .pre)) (v .1) (omega (arith, v .1, v .2)) (v .7) (c .before .before .before .before .before .before .once .ensures .1)
+    filled (fillable-kept (v .4 ∙ c .before .before .before .before .before .before .fill-round .kept .1 .1 .0) (c .before .before .before .before .before .before .fill-round .kept .1 .1 .1 .0) (c .before .before .before .before .before .before .before .before .before .before .before .before .pre)) (v .1) (omega (arith, v .1, v .2)) (v .7) (c .before .before .before .before .before .before .fill-round .ensures .1)
 
 pub fill-spec : {M : Type 1} → statement M
 fill-spec =
@@ -101,7 +101,7 @@ fill-spec =
     Inv-loop
     μ-loop
     order-requires
-    once-requires
+    fill-round-requires
     cast-logs
     slice-write-logs
     mul-end

@@ -1,54 +1,51 @@
--- `generator::generator::times_coset` meets its contract: the coset's factor is the generator of r alone, and generators multiply.
-use Rattle.generator.proofs.Assembly.{joined}
+use native.Mathlib.Omega.{arith}
+use mathlib.Core.Path.{ap, _∙_}
+use Prim.Native.Nat.{ℕ, _%_, _^_}
+use Rattle.field.specs.Mask.{clmul}
+use Rattle.binary.specs.Packed.{packed, placesIn}
+use Rattle.generator.proofs.Assembly.{small-mask}
 use borrow.Author.Needs.{needs}
 use Rattle.generator.proofs.generator.times_coset.Statement.{statement}
 use Rattle.generator.proofs.generator.times_coset.Tie as tie
+use Rattle.generator.proofs.generator.times_coset.Reads as reads
+use Rattle.generator.proofs.generator.times_coset.Lts as lts
+use Rattle.binary.proofs.packed.hand_over.Reads as hand-over-reads
+use Rattle.binary.proofs.packed.multiply.Reads as multiply-reads
+use Rattle.generator.proofs.coset.coset_factor.Reads as coset-factor-reads
 
-factor-requires : tie.Need-factor-requires
-factor-requires c κs = search needs
+coset-factor-requires : tie.Need-coset-factor-requires
+coset-factor-requires c κs = search needs
+
+cast-multiply : tie.Need-cast-multiply
+cast-multiply c = search needs
 
 add-multiply : tie.Need-add-multiply
 add-multiply c = search needs
 
-add-multiply-2 : tie.Need-add-multiply-2
-add-multiply-2 c = search needs
-
 multiply-requires : tie.Need-multiply-requires
-multiply-requires c κs = search needs
-
-add-hand-over : tie.Need-add-hand-over
-add-hand-over c = search needs
+multiply-requires c κs = let p = c .before .before .before .before .before .before .before .before .before .pre in (p .3, p .4, small-mask (p .0) (c .before .before .before .before .coset-factor .ensures), omega (arith, c .before .before .before .before .coset-factor .ensures .most, p .0 .small))
 
 hand-over-requires : tie.Need-hand-over-requires
 hand-over-requires c κs = search needs
 
-add-result : tie.Need-add-result
-add-result c = search needs
-
 same-length : tie.Need-same-length
-same-length c = c .before .before .before .before .hand-over .kept .1 .0
+same-length c = search needs
 
 same-length-2 : tie.Need-same-length-2
-same-length-2 c = c .before .before .before .before .before .before .before .before .before .before .before .before .before .before .before .factor .kept .0
-
-same-length-3 : tie.Need-same-length-3
-same-length-3 c = search needs
+same-length-2 c = search needs
 
 returns : tie.Need-returns
-returns c = joined (c .before .before .before .before .before .before .before .before .before .before .before .before .before .before .before .before .before .before .before .before .pre .0) (c .before .before .before .before .before .before .before .before .before .before .before .before .before .before .before .factor .ensures) (c .before .before .before .before .before .before .before .before .before .multiply .ensures) (c .before .before .before .before .hand-over .ensures)
+returns c = let p = c .before .before .before .before .before .before .before .before .before .before .before .before .before .before .before .before .before .before .before .args .product .now in record { is = c .before .before .before .before .hand-over .ensures .0 ∙ c .before .before .before .before .before .before .before .before .before .multiply .ensures ∙ ap (λ (x : ℕ). clmul x (packed p) % 2 ^ placesIn p) (c .before .before .before .before .before .before .before .before .before .before .before .before .before .before .coset-factor .ensures .mask-is); clear = c .before .before .before .before .hand-over .ensures .1 }
 
 pub times-coset-spec : {M : Type 1} → statement M
 times-coset-spec =
     tie.close
     (tie.spec
-    factor-requires
+    coset-factor-requires
+    cast-multiply
     add-multiply
-    add-multiply-2
     multiply-requires
-    add-hand-over
     hand-over-requires
-    add-result
     same-length
     same-length-2
-    same-length-3
     returns)

@@ -1,42 +1,39 @@
--- `listing::write::put_digits` meets its contract: the first i digits are written.
+use borrow.Author.Needs.{needs}
 use native.Mathlib.Omega.{arith}
-use mathlib.Core.Path.{_≡_, refl}
-use Prim.Native.Nat.{_+_, _-_, _≤_}
+use mathlib.Core.Path.{_≡_, refl, sym, ap, _∙_}
+use mathlib.Core.List.{List, [], _∷_}
+use Prim.Native.Nat.{ℕ, _+_, _-_, _/_, _^_, _≤_, _<_}
 use lib.ListN.{length}
-use Rattle.codeword.specs.Place.{Binary}
+use Rattle.field.proofs.Xor.{digit-lt}
+use Rattle.binary.specs.Packed.{packed, placesIn}
 use Rattle.listing.specs.Wrote.{Wrote}
 use Rattle.listing.specs.Text.{rows, digitIn}
 use Rattle.listing.proofs.Pieces.{rows-start, rows-more, rows-end}
+use Rattle.listing.proofs.Writing.{piece-is}
 use Rattle.listing.proofs.write.put_digits.Statement.{statement}
 use Rattle.listing.proofs.write.put_digits.Tie as tie
+use Rattle.listing.proofs.write.put_digits.Reads as reads
+use Rattle.listing.proofs.write.put_digits.Lts as lts
+use Rattle.binary.proofs.packed.coefficient_at.Reads as coefficient-at-reads
+use Rattle.listing.proofs.piece.put.Reads as put-reads
 
 abbrev Inv-loop : tie.InvT-loop
-Inv-loop out₀ at generator count end₀ j₀ out end j =
-    (at + count ≤ length out₀) × (count ≤ length generator) × Binary generator × (length out ≡ length out₀) × (j ≤ count) × (end ≤ at + j)
-    × Wrote (rows (digitIn generator) j) at out₀ out end
+Inv-loop out₀ at generator count end₀ j₀ out end j = (at + count ≤ length out₀) × (count ≤ placesIn generator) × (length out ≡ length out₀) × (j ≤ count) × (end ≤ at + j) × Wrote (rows (digitIn generator) j) at out₀ out end
 
 abbrev μ-loop : tie.MeasureT-loop
 μ-loop out₀ at generator count end₀ j₀ out end j = count - j
 
 loop-holds : tie.Need-loop-holds Inv-loop μ-loop
-loop-holds c =
-    let start = c .before .before in
-    let p = start .pre in
-    (p .0, p .1, p .2, refl, omega arith, omega arith, rows-start (digitIn (start .args .generator .now)) (omega (arith, p .0)))
+loop-holds c = let p = c .before .before .pre in (p .0, p .1, refl, omega arith, omega arith, rows-start (digitIn (c .before .before .args .generator .now)) (omega (arith, p .0)))
 
-shared-slice-read-digit : tie.Need-shared-slice-read-digit Inv-loop μ-loop
-shared-slice-read-digit c = let v = c .before .before .loop .inv in omega (arith, v .1)
-
-cast-digit : tie.Need-cast-digit Inv-loop μ-loop
-cast-digit c = omega (arith, c .shared-slice-known2 .given (c .before .before .loop .j))
+coefficient-at-requires : tie.Need-coefficient-at-requires Inv-loop μ-loop
+coefficient-at-requires c κs = let v = c .before .loop .inv in omega (arith, v .1)
 
 add-put : tie.Need-add-put Inv-loop μ-loop
-add-put c = let v = c .before .before .before .loop .inv in omega (arith, v .2 .small (c .before .before .before .loop .j))
+add-put c = omega (arith, c .before .coefficient-at .ensures, digit-lt (packed (c .before .before .before .before .before .before .args .generator .now) / 2 ^ c .before .before .before .loop .j))
 
 put-requires : tie.Need-put-requires Inv-loop μ-loop
-put-requires c κs =
-    let v = c .before .before .before .loop .inv in
-    (omega (arith, v .0, v .3, v .5), omega (arith, v .2 .small (c .before .before .before .loop .j)))
+put-requires c κs = let v = c .before .before .before .loop .inv in (omega (arith, v .0, v .2, v .4), omega (arith, c .before .coefficient-at .ensures, digit-lt (packed (c .before .before .before .before .before .before .args .generator .now) / 2 ^ c .before .before .before .loop .j)))
 
 add-j : tie.Need-add-j Inv-loop μ-loop
 add-j c = let v = c .before .before .before .before .before .before .loop .inv in omega (arith, v .0)
@@ -45,28 +42,13 @@ loop-less : tie.Need-loop-less Inv-loop μ-loop
 loop-less c = omega arith
 
 loop-again : tie.Need-loop-again Inv-loop μ-loop
-loop-again c =
-    let start = c .before .before .before .before .before .before .before .before .before in
-    let l = c .before .before .before .before .before .before .loop in
-    let v = l .inv in
-    let w = c .before .before .put in (
-      v .0,
-      v .1,
-      v .2,
-      omega (arith, v .3, w .kept .0),
-      omega arith,
-      omega (arith, v .5, w .ensures .end-is),
-      rows-more (digitIn (start .args .generator .now)) (l .j) (v .6) (w .ensures),
-    )
+loop-again c = let l = c .before .before .before .before .before .before .loop in let v = l .inv in let w = c .before .before .put in (v .0, v .1, omega (arith, v .2, w .kept .0), omega arith, omega (arith, v .4, w .ensures .end-is), rows-more (digitIn (c .before .before .before .before .before .before .before .before .before .args .generator .now)) (l .j) (v .5) (piece-is (ap (λ (x : ℕ). (48 + x) ∷ []) (c .before .before .before .before .coefficient-at .ensures)) (w .ensures)))
 
 same-length : tie.Need-same-length Inv-loop μ-loop
-same-length c = c .before .loop .inv .3
+same-length c = c .before .loop .inv .2
 
 returns : tie.Need-returns Inv-loop μ-loop
-returns c =
-    let start = c .before .before .before .before in
-    let v = c .before .loop .inv in
-    (rows-end (digitIn (start .args .generator .now)) {i = c .before .loop .j} (omega (arith, v .4)) (v .6), omega (arith, v .4, v .5))
+returns c = let v = c .before .loop .inv in (rows-end (digitIn (c .before .before .before .before .args .generator .now)) {i = c .before .loop .j} (omega (arith, v .3)) (v .5), omega (arith, v .3, v .4))
 
 pub put-digits-spec : {M : Type 1} → statement M
 put-digits-spec =
@@ -75,8 +57,7 @@ put-digits-spec =
     Inv-loop
     μ-loop
     loop-holds
-    shared-slice-read-digit
-    cast-digit
+    coefficient-at-requires
     add-put
     put-requires
     add-j

@@ -1,0 +1,43 @@
+-- `binary::register::step` meets its contract: the highest place and the bit decide whether the feedback is added.
+use native.Mathlib.Omega.{arith}
+use Rattle.binary.proofs.Feeding.{ones-fit, top-lt, fed-mask, fed-step}
+use borrow.Author.Needs.{needs}
+use Rattle.binary.proofs.register.step.Statement.{statement}
+use Rattle.binary.proofs.register.step.Tie as tie
+
+sub-top : tie.Need-sub-top
+sub-top c = search needs
+
+mul-top : tie.Need-mul-top
+mul-top c = search needs
+
+slice-read-top : tie.Need-slice-read-top
+slice-read-top c = search needs
+
+mul-double-add : tie.Need-mul-double-add
+mul-double-add c = record { fits = ones-fit _ (top-lt (c .before .before .before .before .args .register .now) (λ i. omega (arith, c .before .slice-known2 .given i))) }
+
+mul-double-add-2 : tie.Need-mul-double-add-2
+mul-double-add-2 c = record { fits = ones-fit _ (c .before .before .before .before .pre .2) }
+
+double-add-requires : tie.Need-double-add-requires
+double-add-requires c κs = let p = c .before .before .before .before .pre in (p .1, fed-mask (c .before .before .before .before .args .bit) (c .before .before .before .before .args .register .now) (λ i. omega (arith, c .before .slice-known2 .given i)) (p .2))
+
+same-length : tie.Need-same-length
+same-length c = search needs
+
+returns : tie.Need-returns
+returns c = let p = c .before .before .before .before .before .before .before .pre in let a = c .before .before .before .before .before .before .before .args in fed-step (a .bit) (a .register .now) (λ i. omega (arith, c .before .before .before .before .slice-known2 .given i)) (p .2) (a .feedback .now) _ (p .1) (c .before .before .double-add .kept .0) (p .0) (c .before .before .double-add .ensures)
+
+pub step-spec : {M : Type 1} → statement M
+step-spec =
+    tie.close
+    (tie.spec
+    sub-top
+    mul-top
+    slice-read-top
+    mul-double-add
+    mul-double-add-2
+    double-add-requires
+    same-length
+    returns)

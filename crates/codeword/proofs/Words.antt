@@ -8,7 +8,8 @@
 --   message-places, remainder-places, joint-places      eight places of a message above a remainder
 --   Placing, placing-start, placing-more, placing-end      all places, eight at a time
 --   encoded-bytes        with the remainder of the message, the bytes of its codeword
---   Reading, reading-start, reading-more, reading-end      the message, place by place
+--   copied-start, copied-more, copied-end      a message's whole bytes
+--   Reading, reading-start, reading-more, reading-end      and the places of the last one
 use mathlib.Core.Path.{_≡_, refl, sym, ap, ap₂, _∙_, subst}
 use mathlib.Core.Logic.{_≢_, _⊎_, inl, inr}
 use mathlib.Core.Bool.{Bool, true, false, not}
@@ -42,7 +43,7 @@ use Rattle.binary.proofs.Feeding.{raised-low}
 use Rattle.generator.specs.Building.{Lengths, RoomWhereSmall, Multiplied}
 use Rattle.generator.proofs.LowPlaces.{clmul-low}
 use Rattle.codeword.specs.Place.{Put, turned, wholeMask}
-use Rattle.codeword.specs.Codewords.{Coded, Usable, Fresh, FeedbackMade, RemainderTested, Encodable, EightOf, PlacesWritten, CodewordWritten, MessageRead}
+use Rattle.codeword.specs.Codewords.{Coded, Usable, Fresh, FeedbackMade, RemainderTested, Encodable, EightOf, PlacesWritten, CodewordWritten, BytesCopied, MessageRead}
 use Rattle.codeword.proofs.Places.{word-weights, message-weights, place-is, mask-coefficient, mask-above, bytes-same}
 use Rattle.codeword.proofs.Eight.{turned-digit, whole-is}
 
@@ -218,24 +219,44 @@ encoded-bytes {n} {k} {s} {m} {reps} {message} {f} {r₀} {r} {out₀} {out} u c
     }
 
 -- ---- reading out
+pub copied-start : {m : ℕ} {word out : List ℕ} → BytesCopied m 0 word out out
+copied-start = record { at = λ j h. absurd (omega arith); rest = λ i h. refl }
+
+pub copied-more : {m j i₀ v : ℕ} {word out out′ : List ℕ} → BytesCopied m j word out out′ → i₀ ≡ m + 8 * j → i₀ + 8 ≤ length word * 8
+    → v ≡ wholeMask wordWeight word / 2 ^ i₀ % 256 → j < length out′ → BytesCopied m (j + 1) word out (set out′ j v)
+copied-more {m} {j} {i₀} {v} {word} {out} {out′} t e room q h = record {
+  at = λ i l. elim (ℕ-discrete (i / 8) j) [
+    | yes s ↦ (let d : i₀ + i % 8 ≡ m + i = omega arith in
+        place-is message-weights (set out′ j v) i
+        ∙ ap (coefficient (i % 8)) (ap (λ (k : ℕ). getD (set out′ j v) k 0) s ∙ getD-set-same out′ j v 0 h ∙ q)
+        ∙ digit-low (i % 8) 8 (wholeMask wordWeight word / 2 ^ i₀) (omega arith)
+        ∙ ap (λ (y : ℕ). y % 2) (shr-shr (wholeMask wordWeight word) i₀ (i % 8))
+        ∙ mask-coefficient wordWeight (length word * 8) word (i₀ + i % 8) (omega arith) ∙ ap (place wordWeight word) d)
+    | no s ↦ place-is message-weights (set out′ j v) i ∙ ap (coefficient (i % 8)) (getD-set-other out′ j (i / 8) v 0 s)
+        ∙ sym (place-is message-weights out′ i) ∙ t .at i (omega arith)
+  ];
+  rest = λ i l. getD-set-other out′ j i v 0 (λ s. omega arith) ∙ t .rest i (omega arith);
+}
+
+pub copied-end : {m j count : ℕ} {word out out′ : List ℕ} → j ≡ count → BytesCopied m j word out out′ → BytesCopied m count word out out′
+copied-end {m} {j} {count} {word} {out} {out′} e t = subst (λ (k : ℕ). BytesCopied m k word out out′) e t
+
 pub record Reading (m k : ℕ) (word : List ℕ) (i : ℕ) (out : List ℕ) : Type 0 where
   pub at : (j : ℕ) → j < i → place messageWeight out j ≡ place wordWeight word (m + j)
   pub clear : (j : ℕ) → k ≤ j → j < bytesFor k * 8 → place messageWeight out j ≡ 0
   pub bytes : (j : ℕ) → getD out j 0 < 256
 
-pub reading-start : (out : List ℕ) {m k e : ℕ} {word : List ℕ} → 1 ≤ k → length out ≡ bytesFor k → e ≡ length out - 1 → ((j : ℕ) → getD out j 0 < 256)
-    → Reading m k word 0 (set out e 0)
+pub reading-start : (out : List ℕ) {m k e : ℕ} {word out′ : List ℕ} → 1 ≤ k → length out ≡ bytesFor k → e ≡ length out - 1
+    → BytesCopied m (k / 8) word (set out e 0) out′ → ((j : ℕ) → getD out′ j 0 < 256) → Reading m k word (k / 8 * 8) out′
 unfolding bytesFor
-reading-start out {m} {k} {e} {word} pos long ee small = record {
-  at = λ j h. absurd (omega arith);
+reading-start out {m} {k} {e} {word} {out′} pos long ee t small = record {
+  at = t .at;
   clear = λ j a b.
       let s : j / 8 ≡ e = omega arith in
-      place-is message-weights (set out e 0) j
-      ∙ ap (coefficient (j % 8)) (ap (λ (x : ℕ). getD (set out e 0) x 0) s ∙ getD-set-same out e 0 0 (omega arith)) ∙ coefficient-zero (j % 8);
-  bytes = λ j. elim (ℕ-discrete j e) [
-    | yes q ↦ subst (λ (x : ℕ). x < 256) (sym (ap (λ (i : ℕ). getD (set out e 0) i 0) q ∙ getD-set-same out e 0 0 (omega arith))) (omega arith)
-    | no q ↦ subst (λ (x : ℕ). x < 256) (sym (getD-set-other out e j 0 0 q)) (small j)
-  ];
+      place-is message-weights out′ j
+      ∙ ap (coefficient (j % 8))
+      (t .rest (j / 8) (omega arith) ∙ ap (λ (x : ℕ). getD (set out e 0) x 0) s ∙ getD-set-same out e 0 0 (omega arith)) ∙ coefficient-zero (j % 8);
+  bytes = small;
 }
 
 pub reading-more : {m k i at bit : ℕ} {word out out′ : List ℕ} → i < k → at ≡ m + i → bit ≡ place wordWeight word at → Reading m k word i out

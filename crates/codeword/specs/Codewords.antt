@@ -9,12 +9,12 @@
 --   EightOf message m r i x       x is eight places from i on of the word that has the message above what the register r holds
 --   PlacesWritten message m r out      the bytes of that word
 --   CodewordWritten n k reps message out      the bytes of a message's codeword
---   Readable, MessageRead   the same for reading out
+--   Readable, MessageRead   the same for reading out; BytesCopied m count word out out′: its first whole bytes
 use mathlib.Core.Path.{_≡_}
 use mathlib.Core.Bool.{Bool, false, not}
 use mathlib.Core.List.{List}
 use Prim.Native.Nat.{ℕ, _+_, _-_, _*_, _/_, _%_, _^_, _≤_, _<_}
-use lib.ListN.{length}
+use lib.ListN.{length, getD}
 use Rattle.field.specs.Field.{orderOfTwo}
 use Rattle.field.specs.Mask.{coefficient}
 use Rattle.document.specs.Layout.{wordWeight, messageWeight, bytesFor, place, maskOf, bytesOf, spare}
@@ -73,6 +73,10 @@ pub record Readable (m k : ℕ) (word out : List ℕ) : Type 0 where
   pub out-long : length out ≡ bytesFor k
   pub k-pos : 1 ≤ k
   pub most : m + k ≤ 65535
+
+pub record BytesCopied (m count : ℕ) (word out out′ : List ℕ) : Type 0 where
+  pub at : (j : ℕ) → j < count * 8 → place messageWeight out′ j ≡ place wordWeight word (m + j)
+  pub rest : (i : ℕ) → count ≤ i → getD out′ i 0 ≡ getD out i 0
 
 pub record MessageRead (m k : ℕ) (word out : List ℕ) : Type 0 where
   pub is : out ≡ bytesOf messageWeight k (messageOf m (maskOf wordWeight (m + k) word))

@@ -1,5 +1,5 @@
-// Words and messages in bytes: single places read and set, four of a word or eight of a message read at once, and spare bits. Each
-// layout has functions of its own.
+// Words and messages in bytes: single places read and set, four or eight read at once, and spare bits. Each layout has functions of
+// its own.
 ghost use mathlib.Core.Path.{_≡_};
 ghost use Prim.Native.Nat.{_/_, _%_, _^_, _<_, _≤_};
 ghost use lib.ListN.{length};
@@ -64,6 +64,19 @@ pub fn eight_message_places(bytes: &[u8], i: usize) -> usize
         return low;
     }
     (low + ((bytes[at + 1] as usize) << (8 - i % 8))) & 255
+}
+
+// The same of a word.
+pub fn eight_word_places(bytes: &[u8], i: usize) -> usize
+    requires { ⌜ i / 8 < length (now bytes) ⌝ }
+    ensures { λ r. ⌜ r ≡ wholeMask wordWeight (now (bytes .entry)) / 2 ^ i % 256 ⌝ }
+{
+    let at = i / 8;
+    let low = turned_byte(bytes[at] as usize) >> (i % 8);
+    if at + 1 == bytes.len() {
+        return low;
+    }
+    (low + (turned_byte(bytes[at + 1] as usize) << (8 - i % 8))) & 255
 }
 
 pub fn bytes_for(n: usize) -> usize

@@ -3,8 +3,9 @@ ghost use mathlib.Core.Path.{_≡_};
 ghost use Prim.Native.Nat.{_+_, _*_, _<_, _≤_};
 ghost use lib.ListN.{length};
 ghost use Rattle.binary.specs.Packed.{placesIn};
-ghost use Rattle.codeword.specs.Codewords.{Usable, Fresh, Encodable, EightOf, PlacesWritten, CodewordWritten, Readable, MessageRead};
+ghost use Rattle.codeword.specs.Codewords.{Usable, Fresh, Encodable, EightOf, PlacesWritten, CodewordWritten, Readable, BytesCopied, MessageRead};
 use crate::layout::eight_message_places;
+use crate::layout::eight_word_places;
 use crate::layout::set_message_place;
 use crate::layout::turned_byte;
 use crate::layout::word_place;
@@ -71,13 +72,26 @@ pub fn write_codeword(
     write_places(message, n - k, register, out);
 }
 
-// The message in the k places of a word from m on. The spare bits are in the last byte.
+// The first whole bytes of a message, as many as `count`, whose places are those of the word from m on.
+fn write_whole_bytes(word: &[u8], m: usize, count: usize, out: &mut [u8])
+    requires { ⌜ (m + count * 8 ≤ length (now word) * 8) × (length (now word) ≤ 8192) × (count ≤ length (now out)) ⌝ }
+    ensures { λ _. ⌜ BytesCopied m count (now (word .entry)) (now (out .entry)) (now (out .exit)) ⌝ }
+{
+    let mut j: usize = 0;
+    while j < count {
+        out[j] = eight_word_places(word, m + 8 * j) as u8;
+        j = j + 1;
+    }
+}
+
+// The message in the k places of a word from m on. Those of the last byte, if it has spare bits, are set one by one.
 pub fn write_message(word: &[u8], m: usize, k: usize, out: &mut [u8])
     requires { ⌜ Readable m k (now word) (now out) ⌝ }
     ensures { λ _. ⌜ MessageRead m k (now (word .entry)) (now (out .exit)) ⌝ }
 {
     out[out.len() - 1] = 0;
-    let mut i: usize = 0;
+    write_whole_bytes(word, m, k / 8, out);
+    let mut i = k / 8 * 8;
     while i < k {
         set_message_place(out, i, word_place(word, m + i));
         i = i + 1;

@@ -2,11 +2,12 @@
 --
 --   length-at, degree-at, coset-at      what Lengths says in the words of the theory, of the field and of a coset
 --   generator-lt, small-mask      a generator has one coefficient more than its degree says, and so has a factor
---   one-round, no-round        the tables of one round, where s is at most 8
+--   one-round, no-round        the tables of one round, filled or not
 --   reps-apart, one-more       one representative more, from the last down: the generator times the factor of its coset
 --   Making, making-start, making-more, making-end      the product, representative by representative
 --   multiplied-one             in place of 1, the generator itself
 use mathlib.Core.Path.{_≡_, refl, sym, ap, _∙_, subst}
+use mathlib.Core.Bool.{true, false}
 use mathlib.Core.List.{List, [], _∷_}
 use Prim.Native.Nat.{ℕ, zero, suc, _+_, _-_, _*_, _%_, _^_, _≤_, _<_}
 use native.Mathlib.Nat.{mod-eq-of-lt, lt-of-lt-of-le}
@@ -19,6 +20,7 @@ use Rattle.algebra.proofs.Lists.{In, here, there}
 use Rattle.field.specs.Mask.{clmul}
 use Rattle.field.specs.Field.{Degree}
 use Rattle.field.specs.Tables.{RoundFillable, Powers, Logs}
+use Rattle.field.proofs.Search.{true-ne-false}
 use Rattle.field.proofs.MaskProduct.{clmul-one-l, clmul-one-r}
 use Rattle.cyclic.proofs.Lift.{lt-of-degree}
 use Rattle.document.specs.Coset.{smallest, definingSet, dimension}
@@ -28,7 +30,7 @@ use Rattle.document.proofs.Theory.{Length, degree}
 use Rattle.document.proofs.GeneratorIs.{generator-degree}
 use Rattle.document.proofs.Join.{CosetApart, apart-of, generator-join}
 use Rattle.binary.specs.Packed.{packed, placesIn}
-use Rattle.generator.specs.Coset.{CosetOf, RoundWhereSmall, Factored}
+use Rattle.generator.specs.Coset.{CosetOf, RoundWhere, Factored}
 use Rattle.generator.specs.Building.{Rising, Lengths, Multiplied}
 use Rattle.generator.proofs.CosetWalk.{length-of}
 use Rattle.generator.proofs.LowPlaces.{clmul-on}
@@ -60,7 +62,7 @@ small-mask {n} {s} {r} {f} {m} c t = subst (λ (x : ℕ). x < 2 ^ (m + 1)) (sym 
 
 -- ---- the tables of one round
 pub one-round : {s q : ℕ} {e g e′ g′ : List ℕ} → RoundFillable s e g → q ≡ 2 ^ s - 1 → length e′ ≡ length e → length g′ ≡ length g
-    → Powers s q e′ → Logs s q g g′ → RoundWhereSmall s e′ g′
+    → Powers s q e′ → Logs s q g g′ → RoundWhere true s e′ g′
 one-round {s} {q} {e′ = e′} r f a b p l = record {
   round = λ h. record {
     degree = r .degree;
@@ -71,8 +73,8 @@ one-round {s} {q} {e′ = e′} r f a b p l = record {
   };
 }
 
-pub no-round : {s : ℕ} {e g : List ℕ} → 8 < s → RoundWhereSmall s e g
-no-round h = record { round = λ l. absurd (omega arith) }
+pub no-round : {s : ℕ} {e g : List ℕ} → RoundWhere false s e g
+no-round = record { round = λ l. absurd (true-ne-false l refl) }
 
 -- ---- from the last representative down
 in-drop : (k : ℕ) (l : List ℕ) (q : ℕ) → In q (drop k l) → (j : ℕ) × (k ≤ j) × (j < length l) × (getD l j 0 ≡ q)

@@ -2,10 +2,11 @@
 --
 --   CosetOf n s r           r is below the odd length n, whose s is at most 12
 --   OneRound s e g          e holds the powers of ω of one round, and g their logarithms
---   RoundWhereSmall s e g   so where s is at most 8
+--   RoundWhere filled s e g      so where they are filled
 --   FromValue s v m f k     f is the mask of degree m, up to s, whose value at ω is v, and k is m
 --   Factored n s r f m      f is the factor of the coset of r, and m its degree, the number of members
 use mathlib.Core.Path.{_≡_}
+use mathlib.Core.Bool.{Bool, true}
 use mathlib.Core.List.{List, [], _∷_}
 use Prim.Native.Nat.{ℕ, _-_, _/_, _^_, _≤_, _<_}
 use lib.ListN.{length, getD}
@@ -28,8 +29,8 @@ pub record OneRound (s : ℕ) (e g : List ℕ) : Type 0 where
   pub powers : Powers s (2 ^ s - 1) e
   pub logs : (k : ℕ) → k < 2 ^ s - 1 → getD g (fieldPower s ω k) 0 ≡ k
 
-pub record RoundWhereSmall (s : ℕ) (e g : List ℕ) : Type 0 where
-  pub round : s ≤ 8 → OneRound s e g
+pub record RoundWhere (filled : Bool) (s : ℕ) (e g : List ℕ) : Type 0 where
+  pub round : filled ≡ true → OneRound s e g
 
 -- ω is x, so the value at ω of a mask is its remainder by the field's mask
 pub record FromValue (s v m f k : ℕ) : Type 0 where

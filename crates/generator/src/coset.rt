@@ -3,7 +3,7 @@
 ghost use mathlib.Core.Path.{_≡_};
 ghost use Prim.Native.Nat.{_-_, _/_, _^_};
 ghost use Rattle.field.specs.Field.{Degree};
-ghost use Rattle.generator.specs.Coset.{CosetOf, OneRound, RoundWhereSmall, FromValue, Factored};
+ghost use Rattle.generator.specs.Coset.{CosetOf, OneRound, RoundWhere, FromValue, Factored};
 use field::order::step;
 use field::order::twice;
 use field::power::power;
@@ -90,19 +90,20 @@ fn factor_by_logarithms(
     from_value(s, powers[sum], degree)
 }
 
-// The factor of the coset of r, by the tables of one round where s is at most 8.
+// The factor of the coset of r, by the tables of one round where they are filled.
 pub fn coset_factor(
     n: usize,
     s: usize,
     r: usize,
     exponent: usize,
+    filled: bool,
     powers: &[u16],
     logs: &[u16],
 ) -> Factor
-    requires { ⌜ CosetOf n s r × (exponent ≡ (2 ^ s - 1) / n) × RoundWhereSmall s (now powers) (now logs) ⌝ }
+    requires { ⌜ CosetOf n s r × (exponent ≡ (2 ^ s - 1) / n) × RoundWhere filled s (now powers) (now logs) ⌝ }
     ensures { λ f. ⌜ Factored n s r (f .mask) (f .degree) ⌝ }
 {
-    if s <= 8 {
+    if filled {
         return factor_by_logarithms(n, s, r, exponent, powers, logs);
     }
     factor_by_products(n, s, r, exponent)

@@ -3,7 +3,7 @@ use native.Mathlib.Omega.{arith}
 use Prim.Native.Nat.{_+_, _-_, _/_, _%_}
 use lib.ListN.{getD}
 use lib.Pow.{shr-le}
-use Rattle.codeword.proofs.Eight.{shifted-lt, eight-sum, eight-last}
+use Rattle.codeword.proofs.Eight.{shifted-lt, message-sum, message-last}
 use borrow.Author.Needs.{needs}
 use Rattle.codeword.proofs.layout.eight_message_places.Statement.{statement}
 use Rattle.codeword.proofs.layout.eight_message_places.Tie as tie
@@ -21,7 +21,7 @@ add-if1 : tie.Need-add-if1
 add-if1 c = search needs
 
 returns : tie.Need-returns
-returns c = let a = c .before .before .args in eight-last (a .bytes .now) (λ k. omega (arith, c .before .shared-slice-known .given k)) (a .i) (c .if1 .taken)
+returns c = let a = c .before .before .args in message-last (a .bytes .now) (λ k. omega (arith, c .before .shared-slice-known .given k)) (a .i) (c .if1 .taken)
 
 add-result : tie.Need-add-result
 add-result c = search needs
@@ -42,7 +42,7 @@ add-result-2 : tie.Need-add-result-2
 add-result-2 c = let a = c .before .before .before .args in omega (arith, shr-le (getD (a .bytes .now) (a .i / 8) 0) (a .i % 8), c .shared-slice-known2 .given (a .i / 8), shifted-lt (getD (a .bytes .now) (a .i / 8 + 1) 0) (8 - a .i % 8) (omega (arith, c .shared-slice-known2 .given (a .i / 8 + 1))) (omega arith))
 
 returns-2 : tie.Need-returns-2
-returns-2 c = let a = c .before .before .before .args in eight-sum (a .bytes .now) (λ k. omega (arith, c .shared-slice-known2 .given k)) (a .i)
+returns-2 c = let a = c .before .before .before .args in message-sum (a .bytes .now) (λ k. omega (arith, c .shared-slice-known2 .given k)) (a .i)
 
 pub eight-message-places-spec : {M : Type 1} → statement M
 eight-message-places-spec =

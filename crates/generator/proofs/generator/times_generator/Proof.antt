@@ -4,7 +4,7 @@ use mathlib.Core.Path.{_≡_, refl, sym, ap, _∙_}
 use Prim.Native.Nat.{ℕ, _-_, _/_, _^_, _≤_}
 use lib.ListN.{length}
 use Rattle.binary.proofs.Packing.{packed-lt}
-use Rattle.generator.specs.Coset.{RoundWhereSmall}
+use Rattle.generator.specs.Coset.{RoundWhere}
 use Rattle.generator.specs.Building.{Rising, Lengths}
 use Rattle.generator.proofs.Assembly.{degree-at, coset-at, Making, making-start, making-more, making-end}
 use Rattle.generator.proofs.generator.times_generator.Statement.{statement}
@@ -12,17 +12,17 @@ use Rattle.generator.proofs.generator.times_generator.Tie as tie
 use Rattle.generator.proofs.generator.times_generator.Reads as reads
 use Rattle.generator.proofs.generator.times_generator.Lts as lts
 use Rattle.field.proofs.product.order.Reads as order-reads
-use Rattle.generator.proofs.generator.fill_where_small.Reads as fill-where-small-reads
+use Rattle.generator.proofs.generator.fill_where_it_pays.Reads as fill-where-it-pays-reads
 use Rattle.generator.proofs.generator.times_coset.Reads as times-coset-reads
 
 abbrev Inv-loop : tie.InvT-loop
-Inv-loop representatives n s product₀ other₀ powers logs exponent i₀ product other i = Lengths n s × Rising n representatives × (exponent ≡ (2 ^ s - 1) / n) × RoundWhereSmall s powers logs × (i ≤ length representatives) × (length other₀ ≡ length product₀) × Making n i representatives product₀ product other
+Inv-loop representatives n s product₀ other₀ powers logs filled exponent i₀ product other i = Lengths n s × Rising n representatives × (exponent ≡ (2 ^ s - 1) / n) × RoundWhere filled s powers logs × (i ≤ length representatives) × (length other₀ ≡ length product₀) × Making n i representatives product₀ product other
 
 abbrev μ-loop : tie.MeasureT-loop
-μ-loop representatives n s product₀ other₀ powers logs exponent i₀ product other i = i
+μ-loop representatives n s product₀ other₀ powers logs filled exponent i₀ product other i = i
 
-fill-where-small-requires : tie.Need-fill-where-small-requires Inv-loop μ-loop
-fill-where-small-requires c κs = let p = c .before .before .before .before .before .before .before .pre in (degree-at (p .0), p .4)
+fill-where-it-pays-requires : tie.Need-fill-where-it-pays-requires Inv-loop μ-loop
+fill-where-it-pays-requires c κs = let p = c .before .before .before .before .before .before .before .pre in (degree-at (p .0), p .4)
 
 order-requires : tie.Need-order-requires Inv-loop μ-loop
 order-requires c κs = degree-at (c .before .before .before .before .before .before .before .before .before .before .before .before .pre .0)
@@ -31,7 +31,7 @@ div-exponent : tie.Need-div-exponent Inv-loop μ-loop
 div-exponent c = omega (arith, c .before .before .before .before .before .before .before .before .before .before .before .before .before .pre .0 .odd .least)
 
 loop-holds : tie.Need-loop-holds Inv-loop μ-loop
-loop-holds c = let p = c .before .before .before .before .before .before .before .before .before .before .before .before .before .pre in (p .0, p .1, ap (λ (x : ℕ). x / c .before .before .before .before .before .before .before .before .before .before .before .before .before .args .n) (c .order .ensures), c .before .before .before .before .before .fill-where-small .ensures, omega arith, p .2, making-start (packed-lt (c .before .before .before .before .before .before .before .before .before .before .before .before .before .args .product .now) (λ i. omega (arith, c .before .before .before .before .before .before .before .before .before .before .before .slice-known .given i))) (p .3) (p .2))
+loop-holds c = let p = c .before .before .before .before .before .before .before .before .before .before .before .before .before .pre in (p .0, p .1, ap (λ (x : ℕ). x / c .before .before .before .before .before .before .before .before .before .before .before .before .before .args .n) (c .order .ensures), c .before .before .before .before .before .fill-where-it-pays .ensures, omega arith, p .2, making-start (packed-lt (c .before .before .before .before .before .before .before .before .before .before .before .before .before .args .product .now) (λ i. omega (arith, c .before .before .before .before .before .before .before .before .before .before .before .slice-known .given i))) (p .3) (p .2))
 
 sub-i : tie.Need-sub-i Inv-loop μ-loop
 sub-i c = omega arith
@@ -61,10 +61,10 @@ same-length-2 : tie.Need-same-length-2 Inv-loop μ-loop
 same-length-2 c = let v = c .before .loop .inv in v .6 .other ∙ sym (v .5)
 
 same-length-3 : tie.Need-same-length-3 Inv-loop μ-loop
-same-length-3 c = c .before .before .before .before .before .before .before .fill-where-small .kept .1 .0
+same-length-3 c = c .before .before .before .before .before .before .before .fill-where-it-pays .kept .1 .1 .0
 
 same-length-4 : tie.Need-same-length-4 Inv-loop μ-loop
-same-length-4 c = c .before .before .before .before .before .before .before .fill-where-small .kept .1 .1 .0
+same-length-4 c = c .before .before .before .before .before .before .before .fill-where-it-pays .kept .1 .1 .1 .0
 
 returns : tie.Need-returns Inv-loop μ-loop
 returns c = making-end (omega arith) (c .before .loop .inv .6)
@@ -75,7 +75,7 @@ times-generator-spec =
     (tie.spec
     Inv-loop
     μ-loop
-    fill-where-small-requires
+    fill-where-it-pays-requires
     order-requires
     div-exponent
     loop-holds

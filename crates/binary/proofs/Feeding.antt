@@ -1,29 +1,30 @@
 -- Bits into packed polynomials, the highest first: products by Horner's rule, and the register of a division.
 --
---   all-ones, ones-digit      0 or 1 spread over a number, and back
---   bits-more                one bit more of a number's bits taken so far
+--   ones-digit, all-ones, ones-fit, ones-sum, bit-lt      0 or 1 spread over a number, and back
+--   bits-more, sum-low        one bit more of a number's bits taken so far
+--   low-sum, split-mask       the lowest places of a sum, and a mask in two parts
 --   times-start, times-more, times-end      a product, coefficient by coefficient
 --   raised-sum, raised-low    masks times a power of x
 --   stepped                   the remainder of x p + bit x^m by g, of degree m
---   top-is                    the highest place of a slice
+--   no-degree                 by a mask of degree 0
+--   topOf, top-is, top-lt     the highest place of a slice
 --   step-is                   one bit into a register
---   fed-mask, fed-step        so as the code feeds it
+--   fed-selector, fed-step        so as the code feeds it
 use mathlib.Core.Path.{_≡_, refl, sym, ap, ap₂, _∙_, subst}
-use mathlib.Core.Logic.{_⊎_, inl, inr}
 use mathlib.Core.List.{List}
-use Prim.Native.Nat.{ℕ, zero, suc, _+_, _-_, _*_, _/_, _%_, _^_, _≤_, _<_}
-use native.Mathlib.Nat.{mul-assoc, mul-comm, mod-eq-of-lt, mod-lt, one-mul, zero-mul, div-one, div-eq-of-lt, div-add-mod', add-zero, add-mul-mod-self-right, mul-mod-left, pow-suc}
+use Prim.Native.Nat.{ℕ, suc, _+_, _-_, _*_, _/_, _%_, _^_, _≤_, _<_}
+use native.Mathlib.Nat.{mul-assoc, mul-comm, mod-eq-of-lt, mod-lt, one-mul, zero-mul, div-one, div-eq-of-lt, div-add-mod', add-zero, add-mul-mod-self-right, mul-mod-left}
 use native.Mathlib.Decide.{ℕ-discrete}
 use native.Mathlib.Omega.{arith}
 use lib.Bits.{bitXor, bitAnd, and-mask, xor-mod}
 use lib.ListN.{length, getD}
-use lib.Pow.{pow-pos, pow-lt, split, high, shl-shr, shr-shr, shl-lt, shr-lt, mod-pow-add}
+use lib.Pow.{pow-pos, split, high, shl-shr, shr-shr, mod-pow-add}
 use Rattle.field.specs.Mask.{_⊕_, coefficient, clmul, remainder}
-use Rattle.field.proofs.Xor.{digit, digit-lt, ⊕-zero-l, ⊕-zero-r, ⊕-norm, ⊕-lt, ⊕-odd, ⊕-shr}
+use Rattle.field.proofs.Xor.{digit, digit-lt, ⊕-zero-l, ⊕-zero-r, ⊕-norm, ⊕-lt}
 use Rattle.field.proofs.MaskProduct.{clmul-add-l, clmul-dbl-l, clmul-zero-l, clmul-zero-r, clmul-one-l, clmul-one-r, clmul-pow}
 use Rattle.field.proofs.Remainder.{remainder-unique}
 use Rattle.cyclic.proofs.Division.{divide}
-use Rattle.binary.specs.Packed.{joined, packed, placesIn, Register, Feedback, Stepped}
+use Rattle.binary.specs.Packed.{joined, packed, placesIn, TopHolds, Feedback, BitTaken}
 use Rattle.binary.proofs.Packing.{Words, joined-s, joined-lt, block-is}
 
 -- ---- a digit spread over a number
@@ -57,7 +58,7 @@ pub sum-low : (a b : ℕ) → b < 2 → a * 2 + b ≡ a * 2 ⊕ b
 sum-low a b h = block-is a 1 b h
 
 -- ---- a product
-low-sum : (k a b : ℕ) → (a ⊕ b) % 2 ^ k ≡ (a % 2 ^ k) ⊕ (b % 2 ^ k)
+pub low-sum : (k a b : ℕ) → (a ⊕ b) % 2 ^ k ≡ (a % 2 ^ k) ⊕ (b % 2 ^ k)
 unfolding _⊕_
 low-sum k a b = xor-mod a b k
 
@@ -106,7 +107,7 @@ raised-low x m k =
     mod-pow-add (x * 2 ^ k) m k ∙ ap₂ (λ (y z : ℕ). y % 2 ^ m * 2 ^ k + z) (shl-shr x k) (mul-mod-left x (2 ^ k)) ∙ add-zero (x % 2 ^ m * 2 ^ k)
 
 -- ---- the remainder of x p + bit x^m
-split-mask : (x m : ℕ) → x ≡ x / 2 ^ m * 2 ^ m ⊕ x % 2 ^ m
+pub split-mask : (x m : ℕ) → x ≡ x / 2 ^ m * 2 ^ m ⊕ x % 2 ^ m
 split-mask x m = sym (split x m) ∙ block-is (x / 2 ^ m) m (x % 2 ^ m) (mod-lt x (pow-pos m))
 
 module _ (m g : ℕ) (top : g / 2 ^ m ≡ 1) where
@@ -161,7 +162,7 @@ top-is l h b =
     ∙ high (getD l (length l - 1) 0) (64 * (length l - 1)) (joined-lt (length l - 1) (λ i. getD l i 0) (λ i k. h i))))
 
 -- ---- one bit into a register
-module _ (f r r′ : List ℕ) {m g p bit by : ℕ} (d : Feedback m g f) (t : Register m p r) (lf : length r ≡ length f) (lr : length r′ ≡ length r)
+module _ (f r r′ : List ℕ) {m g p bit by : ℕ} (d : Feedback m g f) (t : TopHolds m p r) (lf : length r ≡ length f) (lr : length r′ ≡ length r)
     (pos : 1 ≤ length r) (two : bit < 2) (fed : by ≡ packed r / 2 ^ (placesIn r - 1) ⊕ bit) (b : by < 2)
     (is : packed r′ ≡ (packed r * 2 % 2 ^ placesIn f) ⊕ by * packed f) where
   k : ℕ
@@ -209,7 +210,7 @@ module _ (f r r′ : List ℕ) {m g p bit by : ℕ} (d : Feedback m g f) (t : Re
           ap₂ (λ (s t : ℕ). s ⊕ by * t) x y ∙ ap (λ (s : ℕ). 0 ⊕ s) w ∙ ⊕-zero-l 0 ∙ sym (no-degree m g (d .top) (p * 2 ⊕ bit * 2 ^ m) z)
       go (no z) = stepped m g (d .top) p bit by (omega arith) (t .small) two (by-is (omega arith)) b
 
-  pub step-is : Register m (remainder m g (p * 2 ⊕ bit * 2 ^ m)) r′
+  pub step-is : TopHolds m (remainder m g (p * 2 ⊕ bit * 2 ^ m)) r′
   unfolding k
   step-is = record {
     room = subst (λ (x : ℕ). m ≤ 64 * x) (sym lr) (t .room);
@@ -221,25 +222,25 @@ module _ (f r r′ : List ℕ) {m g p bit by : ℕ} (d : Feedback m g f) (t : Re
 abbrev pub topOf : List ℕ → ℕ
 topOf l = getD l (length l - 1) 0 / 2 ^ 63
 
-pub top-lt : (l : List ℕ) → Words l → topOf l < 2
-top-lt l h = omega (arith, h (length l - 1))
+pub top-lt : (l : List ℕ) (k : ℕ) → Words l → getD l k 0 / 2 ^ 63 < 2
+top-lt l k h = omega (arith, h k)
 
-module _ (bit : ℕ) (r : List ℕ) (h : Words r) (two : bit < 2) where
+module _ (top bit : ℕ) (up : top < 2) (two : bit < 2) where
   abbrev fed : ℕ
-  fed = bitXor (topOf r * 18446744073709551615) (bit * 18446744073709551615)
+  fed = bitXor (top * 18446744073709551615) (bit * 18446744073709551615)
 
-  by-lt : topOf r ⊕ bit < 2
-  by-lt = ⊕-lt 1 (topOf r) bit (top-lt r h) two
+  by-lt : top ⊕ bit < 2
+  by-lt = ⊕-lt 1 top bit up two
 
-  fed-is : fed ≡ (topOf r ⊕ bit) * 18446744073709551615
-  fed-is = ones-sum (topOf r) (top-lt r h) bit two
+  fed-is : fed ≡ (top ⊕ bit) * 18446744073709551615
+  fed-is = ones-sum top up bit two
 
-  pub fed-mask : fed ≡ fed % 2 * 18446744073709551615
-  fed-mask = fed-is ∙ all-ones (topOf r ⊕ bit) by-lt ∙ ap (λ (x : ℕ). x % 2 * 18446744073709551615) (sym fed-is)
+  pub fed-selector : fed ≡ fed % 2 * 18446744073709551615
+  fed-selector = fed-is ∙ all-ones (top ⊕ bit) by-lt ∙ ap (λ (x : ℕ). x % 2 * 18446744073709551615) (sym fed-is)
 
-  pub fed-step : (f r′ : List ℕ) → length r ≡ length f → length r′ ≡ length r → 1 ≤ length r
-      → packed r′ ≡ (packed r * 2 % 2 ^ placesIn f) ⊕ fed % 2 * packed f → Stepped bit f r r′
-  fed-step f r′ lf lr pos is = record {
-    holds = λ d t. step-is f r r′ d t lf lr pos two (ap (λ (x : ℕ). x ⊕ bit) (top-is r h pos)) by-lt
-        (is ∙ ap (λ (x : ℕ). (packed r * 2 % 2 ^ placesIn f) ⊕ x * packed f) (ap (λ (x : ℕ). x % 2) fed-is ∙ ones-digit (topOf r ⊕ bit) by-lt));
+  pub fed-step : (f r r′ : List ℕ) → Words r → top ≡ topOf r → length r ≡ length f → length r′ ≡ length r → 1 ≤ length r
+      → packed r′ ≡ (packed r * 2 % 2 ^ placesIn f) ⊕ fed % 2 * packed f → BitTaken bit f r r′
+  fed-step f r r′ h e lf lr pos is = record {
+    holds = λ d t. step-is f r r′ d t lf lr pos two (ap (λ (x : ℕ). x ⊕ bit) (e ∙ top-is r h pos)) by-lt
+        (is ∙ ap (λ (x : ℕ). (packed r * 2 % 2 ^ placesIn f) ⊕ x * packed f) (ap (λ (x : ℕ). x % 2) fed-is ∙ ones-digit (top ⊕ bit) by-lt));
   }

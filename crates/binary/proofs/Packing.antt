@@ -1,21 +1,21 @@
 -- What numbers of 64 places hold, whatever their number: a mask's coefficients, sums and products by x.
 --
---   joined-z, joined-s, joined-same, joined-lt      number by number
---   block-low, block-high, block-sum      two masks beside each other
+--   Numbers, joined-z, joined-s, joined-same, joined-lt      number by number
+--   block-is, block-low, block-high, block-sum      two masks beside each other
 --   coefficient-joined       coefficient j is digit j % 64 of number j / 64
 --   joined-sum, joined-scale      sums, number by number, and 0 or 1 times a mask
---   carried, joined-double        times x: what leaves a number at the top comes into the next one
---   packed-lt, coefficient-packed, packed-zero      so for slices
+--   carried, doubled, joined-double        times x: what leaves a number at the top comes into the next one
+--   Words, packed-lt, coefficient-packed      so for slices
 use mathlib.Core.Path.{_≡_, refl, sym, ap, ap₂, _∙_, subst}
 use mathlib.Core.List.{List}
-use Prim.Native.Nat.{ℕ, zero, suc, _+_, _-_, _*_, _/_, _%_, _^_, _≤_, _<_}
-use native.Mathlib.Nat.{add-comm, mul-comm, mul-assoc, mul-zero, add-mul, mul-add, mod-lt, zero-div, zero-mul}
-use native.Mathlib.Decide.{ℕ-discrete, decLt}
+use Prim.Native.Nat.{ℕ, zero, suc, _+_, _*_, _/_, _%_, _^_, _<_}
+use native.Mathlib.Nat.{add-comm, mul-comm, mul-assoc, mul-zero, add-mul, mul-add, mod-lt}
+use native.Mathlib.Decide.{decLt}
 use native.Mathlib.Omega.{arith}
 use lib.Arith.{digits-lt}
 use lib.Bits.{xor-shifted, xor-block}
 use lib.ListN.{length, getD, List·getD-eq-default}
-use lib.Pow.{pow-pos, pow-add, split, high, low, mod-pow-add, shl-shr, shr-shr}
+use lib.Pow.{pow-pos, pow-add, split, high, low, mod-pow-add, shr-shr}
 use Rattle.field.specs.Search.{total}
 use Rattle.field.specs.Mask.{_⊕_, coefficient}
 use Rattle.field.proofs.Search.{total-z, total-s, total-ext}

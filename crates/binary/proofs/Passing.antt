@@ -1,7 +1,9 @@
 -- Passes over the numbers of a packed slice.
 --
---   masked           a number where a mask is all ones, and else 0
+--   masked           a number where a selector is all ones, and else 0
+--   xor-is           the code's sum is that of masks
 --   Passing, passing-start, passing-more, passing-end      x w, and g where it is asked for, number by number
+--   carry-lt         what is carried is a digit
 --   passing-two      two numbers, written out
 --   packed-one       x^i in place of 0; packed-past: or nothing, past the last number
 --   packed-none      numbers that are all 0
@@ -19,7 +21,7 @@ use native.Mathlib.Omega.{arith}
 use lib.Bits.{bitXor, bitAnd, and-zero-r, and-mask}
 use lib.Dec.{eqb}
 use lib.ListN.{length, getD, set, length-set, List·getD-eq-default}
-use lib.Pow.{shl-shr, pow-pos, pow-lt, pow-mono, pow-add}
+use lib.Pow.{shl-shr, pow-pos, pow-lt, pow-add}
 use lib.Seq.{getD-set-same, getD-set-other}
 use borrow.Author.Tests.{eq-eqb, ne-eqb}
 use Rattle.field.specs.Mask.{_⊕_, coefficient}
@@ -51,7 +53,7 @@ pub record Passing (n by carry : ℕ) (g w₀ w : List ℕ) : Type 0 where
 pub passing-start : {by : ℕ} {g w : List ℕ} → Passing 0 by 0 g w w
 passing-start {by} {g} {w} = record { done = λ i h. absurd (omega arith); over = sym (carried-z (entries w)); rest = λ k h. refl; small = λ i h. absurd (omega arith); small-added = λ i h. absurd (omega arith) }
 
-xor-is : (x y : ℕ) → bitXor x y ≡ x ⊕ y
+pub xor-is : (x y : ℕ) → bitXor x y ≡ x ⊕ y
 unfolding _⊕_
 xor-is x y = refl
 

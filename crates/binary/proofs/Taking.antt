@@ -3,9 +3,9 @@
 --   remainder-none, remainder-more      the remainder of 0, and of twice a remainder and a mask
 --   raised-more      one bit more, times x^m
 --   taken-start, taken-more, taken-end      before the first bit, after each, and after the last
-use mathlib.Core.Path.{_≡_, refl, sym, ap, ap₂, _∙_, subst}
+use mathlib.Core.Path.{_≡_, sym, ap, _∙_, subst}
 use mathlib.Core.List.{List}
-use Prim.Native.Nat.{ℕ, zero, suc, _+_, _-_, _*_, _/_, _%_, _^_, _≤_, _<_}
+use Prim.Native.Nat.{ℕ, _+_, _-_, _*_, _/_, _^_, _≤_, _<_}
 use native.Mathlib.Nat.{mul-assoc, mul-comm, zero-mul, div-eq-of-lt}
 use native.Mathlib.Decide.{ℕ-discrete}
 use native.Mathlib.Omega.{arith}
@@ -14,7 +14,7 @@ use Rattle.field.specs.Mask.{_⊕_, coefficient, remainder}
 use Rattle.field.proofs.Xor.{digit-lt}
 use Rattle.field.proofs.Remainder.{remainder-lt, remainder-add, remainder-zero, remainder-small, remainder-dbl, xtime}
 use Rattle.cyclic.proofs.Division.{divide}
-use Rattle.binary.specs.Packed.{packed, placesIn, Register, Feedback, Stepped, Taken}
+use Rattle.binary.specs.Packed.{packed, placesIn, TopHolds, BitTaken, Taken}
 use Rattle.binary.proofs.Feeding.{bits-more, sum-low, raised-sum, no-degree}
 
 module _ (m g : ℕ) (top : g / 2 ^ m ≡ 1) where
@@ -54,12 +54,12 @@ raised-more a b m h =
     ap (λ (x : ℕ). x ⊕ b * 2 ^ m) (mul-assoc a (2 ^ m) 2 ∙ ap (λ (x : ℕ). a * x) (mul-comm (2 ^ m) 2) ∙ sym (mul-assoc a 2 (2 ^ m)))
     ∙ sym (raised-sum (a * 2) b m) ∙ ap (λ (x : ℕ). x * 2 ^ m) (sym (sum-low a b h))
 
-pub taken-more : {a i bit : ℕ} {f r r′ : List ℕ} → 0 < i → bit ≡ coefficient (i - 1) a → Taken a i f r → Stepped bit f r r′
+pub taken-more : {a i bit : ℕ} {f r r′ : List ℕ} → 0 < i → bit ≡ coefficient (i - 1) a → Taken a i f r → BitTaken bit f r r′
     → Taken a (i - 1) f r′
 taken-more {a} {i} {bit} {f} {r} {r′} h e t s =
     let two : bit < 2 = subst (λ (x : ℕ). x < 2) (sym e) (digit-lt (a / 2 ^ (i - 1))) in
     record {
-      holds = λ {m} {g} d. subst (λ (x : ℕ). Register m x r′)
+      holds = λ {m} {g} d. subst (λ (x : ℕ). TopHolds m x r′)
           (remainder-more m g (d .top) (a / 2 ^ i * 2 ^ m) (bit * 2 ^ m)
           ∙ ap (remainder m g) (raised-more (a / 2 ^ i) bit m two
           ∙ ap (λ (x : ℕ). x * 2 ^ m) (ap (λ (x : ℕ). a / 2 ^ i * 2 + x) e ∙ bits-more a i h)))

@@ -2,17 +2,16 @@
 --
 --   eight-same      numbers with the same low eight digits
 --   window          eight places from place b of number q on
---   window-low, window-past, window-sum      so as the code takes them out of numbers of 64 places
-use mathlib.Core.Path.{_≡_, refl, sym, ap, ap₂, _∙_, subst}
+--   window-low, window-past, window-sum, sum-fits      so as the code takes them out of numbers of 64 places
+use mathlib.Core.Path.{_≡_, sym, ap, ap₂, _∙_, subst}
 use mathlib.Core.Logic.{_⊎_, inl, inr}
 use mathlib.Core.List.{List}
-use Prim.Native.Nat.{ℕ, zero, suc, _+_, _-_, _*_, _/_, _%_, _^_, _≤_, _<_}
+use Prim.Native.Nat.{ℕ, _+_, _-_, _*_, _/_, _%_, _^_, _≤_, _<_}
 use native.Mathlib.Nat.{add-comm, suc-mul, mul-assoc, zero-mul}
-use native.Mathlib.Decide.{decLt}
 use native.Mathlib.Omega.{arith}
 use lib.Bits.{bitAnd, and-mask}
 use lib.ListN.{length, getD, List·getD-eq-default}
-use lib.Pow.{pow-add, shr-shr, shr-lt, mod-mod-pow}
+use lib.Pow.{pow-add, shr-shr, shr-lt}
 use Rattle.algebra.proofs.Poly.{le-or-lt}
 use Rattle.field.specs.Mask.{coefficient}
 use Rattle.field.proofs.Xor.{bit-ext}
@@ -55,9 +54,6 @@ module _ (w : ℕ) (f : ℕ → ℕ) (small : (q : ℕ) → f q < 2 ^ w) (X : �
 
 -- ---- numbers of 64 places
 module _ (l : List ℕ) (h : Words l) (i : ℕ) where
-  at : ℕ
-  at = i / 64
-
   held : (q t : ℕ) → t < 64 → coefficient (q * 64 + t) (packed l) ≡ coefficient t (getD l q 0)
   held q t b =
       let e : (q * 64 + t) % 64 ≡ t = omega arith in
@@ -71,7 +67,6 @@ module _ (l : List ℕ) (h : Words l) (i : ℕ) where
 
   pub window-low : i % 64 ≤ 56 → bitAnd (getD l (i / 64) 0 / 2 ^ (i % 64)) 255 ≡ packed l / 2 ^ i % 256
   window-low b =
-      let y : ℕ = getD l (i / 64 + 1) 0 in
       let e : 64 - i % 64 ≡ 56 - i % 64 + 8 = omega arith in
       let m : getD l (i / 64 + 1) 0 * 2 ^ (64 - i % 64) ≡ getD l (i / 64 + 1) 0 * 2 ^ (56 - i % 64) * 256 =
       ap (λ (k : ℕ). getD l (i / 64 + 1) 0 * 2 ^ k) e ∙ ap (λ (x : ℕ). getD l (i / 64 + 1) 0 * x) (pow-add 2 (56 - i % 64) 8)

@@ -7,35 +7,35 @@ ghost use lib.Dec.{eqb};
 ghost use Rattle.field.specs.Mask.{_⊕_, coefficient, clmul};
 ghost use Rattle.binary.specs.Packed.{packed};
 
-// x w, and g added where the mask is all ones, not 0. What comes up past the last number is dropped.
-pub fn double_add(w: &mut [u64], g: &[u64], mask: u64)
-    requires { ⌜ (length (now w) ≡ length (now g)) × (mask ≡ mask % 2 * 18446744073709551615) ⌝ }
-    ensures { λ _. ⌜ packed (now (w .exit)) ≡ (packed (now (w .entry)) * 2 % 2 ^ (64 * length (now (g .entry)))) ⊕ mask % 2 * packed (now (g .entry)) ⌝ }
+// x w, and g added where the selector is all ones, not 0. What comes up past the last number is dropped.
+pub fn double_add(w: &mut [u64], g: &[u64], selector: u64)
+    requires { ⌜ (length (now w) ≡ length (now g)) × (selector ≡ selector % 2 * 18446744073709551615) ⌝ }
+    ensures { λ _. ⌜ packed (now (w .exit)) ≡ (packed (now (w .entry)) * 2 % 2 ^ (64 * length (now (g .entry)))) ⊕ selector % 2 * packed (now (g .entry)) ⌝ }
 {
     let end = w.len();
     if end == 2 {
-        double_add_two(w, g, mask);
+        double_add_two(w, g, selector);
         return;
     }
     let mut carry = 0u64;
     let mut i: usize = 0;
     while i < end {
         let x = w[i];
-        w[i] = ((x << 1) + carry) ^ (g[i] & mask);
+        w[i] = ((x << 1) + carry) ^ (g[i] & selector);
         carry = x >> 63;
         i = i + 1;
     }
 }
 
 // The same for two numbers, with no loop: a compiler then keeps them out of memory.
-fn double_add_two(w: &mut [u64], g: &[u64], mask: u64)
-    requires { ⌜ (length (now w) ≡ 2) × (length (now g) ≡ 2) × (mask ≡ mask % 2 * 18446744073709551615) ⌝ }
-    ensures { λ _. ⌜ packed (now (w .exit)) ≡ (packed (now (w .entry)) * 2 % 2 ^ (64 * length (now (g .entry)))) ⊕ mask % 2 * packed (now (g .entry)) ⌝ }
+fn double_add_two(w: &mut [u64], g: &[u64], selector: u64)
+    requires { ⌜ (length (now w) ≡ 2) × (length (now g) ≡ 2) × (selector ≡ selector % 2 * 18446744073709551615) ⌝ }
+    ensures { λ _. ⌜ packed (now (w .exit)) ≡ (packed (now (w .entry)) * 2 % 2 ^ (64 * length (now (g .entry)))) ⊕ selector % 2 * packed (now (g .entry)) ⌝ }
 {
     let x = w[0];
-    w[0] = (x << 1) ^ (g[0] & mask);
+    w[0] = (x << 1) ^ (g[0] & selector);
     let y = w[1];
-    w[1] = ((y << 1) + (x >> 63)) ^ (g[1] & mask);
+    w[1] = ((y << 1) + (x >> 63)) ^ (g[1] & selector);
 }
 
 // f g in place of 0, for a mask f of d places: by Horner's rule, its highest coefficient first. What comes up past the last number is

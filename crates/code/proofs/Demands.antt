@@ -43,7 +43,7 @@ use Rattle.code.proofs.Worded.{word-spare-said, message-spare-said, mas
 use Rattle.code.proofs.Worded.{generator-degree-said, multiple-said, zeros-said}
 use Rattle.code.proofs.Worded.{encodes-said, reads-said, refused-said, certificate-published, accepted-published}
 use Rattle.code.proofs.Worded.{rounded-said, distance-said, working-said, record-said, found-said, decoded-said, none-said, apart-said}
-use Rattle.code.proofs.Kept.{kept-said, encoded-said, clean-said}
+use Rattle.code.proofs.Kept.{kept-said, encoded-said, word-said}
 
 module _ (sheet : List ℕ) where
   abbrev x : Stated
@@ -162,7 +162,9 @@ module _ (sheet : List ℕ) where
     -- any two different codewords differ in at least d places
     pub apart : IsAccepted sheet → (c c′ : ℕ) → CodewordOf x c → CodewordOf x c′ → c ≢ c′ → d ≤ differences (x .n) c c′
 
-  -- ---- 2026-02, the encoder keeps only a remainder: of the bits of a mask a, taken in from the highest of so many bits down
+  -- ---- 2026-02, the encoder keeps only a remainder: of the bits of a mask a, taken in from the highest of so many bits down. That the
+  -- code's register holds it after each bit is taken-kept of proofs/Kept.antt, by the invariant of take_message; that no reply or written
+  -- byte differs is that encodeOf and readOf, and the contracts with them, are as they were; of buffers no contract speaks.
   abbrev m : ℕ
   m = x .n - k
 
@@ -172,7 +174,7 @@ module _ (sheet : List ℕ) where
   pub record Request02 : Type 0 where
     -- nothing at first, and with one bit more the remainder of x·p + bit·x^(n-k), where p was kept
     pub first : (bits a : ℕ) → kept m g bits a 0 ≡ 0
-    pub bit-in : (bits a j : ℕ) → kept m g bits a (suc j) ≡ remainder m g (kept m g bits a j * 2 ⊕ coefficient (bits - suc j) a * 2 ^ m)
+    pub bit-in : (bits a j : ℕ) → j < bits → kept m g bits a (suc j) ≡ remainder m g (kept m g bits a j * 2 ⊕ coefficient (bits - suc j) a * 2 ^ m)
     -- "after each bit, that of x^(n-k) times the bits taken so far, the last of them as x^0, by the generator"
     pub after-each-bit : IsAccepted sheet → (bits a j : ℕ) → a < 2 ^ bits → j ≤ bits
         → kept m g bits a j ≡ remainder m g (a / 2 ^ (bits - j) * 2 ^ m)
@@ -181,9 +183,9 @@ module _ (sheet : List ℕ) where
         → (word : List ℕ) × (encodeOf sheet message out ≡ (returned (0 ∷ []), word))
         × (wordOf x word % 2 ^ m ≡ kept m g k (maskOf messageWeight k message) k)
     -- after a word's last place it is 0 exactly for a codeword
-    pub clean : IsAccepted sheet → (word : List ℕ) → CodewordOf x (wordOf x word) ↔ (kept m g (x .n) (wordOf x word) (x .n) ≡ 0)
+    pub word-test : IsAccepted sheet → (word : List ℕ) → CodewordOf x (wordOf x word) ↔ (kept m g (x .n) (wordOf x word) (x .n) ≡ 0)
 
--- ---- 2026-01, highest bit first: for all bytes; spare bits for a buffer of the right length
+-- ---- of bytes alone: 2026-01, highest bit first: for all bytes; spare bits for a buffer of the right length
 pub record Request01 : Type 0 where
   -- "place i of a word has weight 2^(7 - i mod 8) in byte i div 8"
   pub word-order : (word : List ℕ) (i : ℕ) → place wordWeight word i ≡ getD word (i / 8) 0 / 2 ^ (7 - i % 8) % 2
@@ -260,8 +262,8 @@ pub request-02 : (sheet : List ℕ) → Request02 sheet
 unfolding kept
 request-02 sheet = record {
   first = λ bits a. refl;
-  bit-in = λ bits a j. refl;
+  bit-in = λ bits a j h. refl;
   after-each-bit = kept-said sheet;
   written = encoded-said sheet;
-  clean = clean-said sheet;
+  word-test = word-said sheet;
 }

@@ -1,10 +1,11 @@
 -- What the encoder keeps (2026-02), for every sheet of document 01's kind.
 --
---   kept-is            after each bit, the remainder of x^m times the bits taken so far
+--   kept-is, kept-all  after each bit, the remainder of x^m times the bits taken so far; after all
+--   taken-kept         it is what the code's register holds
 --   kept-said          so for an accepted sheet's generator
 --   encoded-said       after a message's last bit, what encoding writes below it
---   clean-said         after a word's last place, 0 exactly for a codeword
-use mathlib.Core.Path.{_≡_, sym, ap, _∙_}
+--   word-said         after a word's last place, 0 exactly for a codeword
+use mathlib.Core.Path.{_≡_, sym, ap, _∙_, subst}
 use mathlib.Core.Logic.{_↔_, Iff·trans, Iff·symm}
 use mathlib.Core.Bool.{true}
 use mathlib.Core.List.{List, [], _∷_}
@@ -23,9 +24,10 @@ use Rattle.document.specs.Judge.{dimensionOf}
 use Rattle.document.specs.Entry.{CodewordOf, generatorOf, wordOf}
 use Rattle.document.specs.Short.{short, stated, encodeOf}
 use Rattle.codeword.proofs.Places.{mask-lt}
+use Rattle.binary.specs.Packed.{TopHolds, Feedback, Taken}
 use Rattle.binary.proofs.Feeding.{bits-more}
 use Rattle.binary.proofs.Taking.{remainder-none, remainder-more, raised-more}
-use Rattle.code.specs.Published.{IsAccepted, Bytes, Message, Systematic, kept}
+use Rattle.code.specs.Published.{IsAccepted, Bytes, Message, kept}
 use Rattle.code.proofs.Tried.{codeword-said}
 use Rattle.code.proofs.RoundTrip as RoundTrip
 use Rattle.code.proofs.Worded.{encodes-said}
@@ -39,7 +41,6 @@ module _ (m g : ℕ) (top : g / 2 ^ m ≡ 1) (k a : ℕ) (h : a < 2 ^ k) where
       (ap (λ (i : ℕ). remainder m g (a / 2 ^ i * 2 ^ m)) e ∙ ap (λ (y : ℕ). remainder m g (y * 2 ^ m)) (div-eq-of-lt h)
       ∙ ap (remainder m g) (zero-mul (2 ^ m)) ∙ remainder-none m g top)
   kept-is (suc j) b =
-      let bit : ℕ = coefficient (k - suc j) a in
       let d : k - suc j ≡ k - j - 1 = omega arith in
       ap (λ (y : ℕ). remainder m g (y * 2 ⊕ coefficient (k - suc j) a * 2 ^ m)) (kept-is j (omega arith))
       ∙ remainder-more m g top (a / 2 ^ (k - j) * 2 ^ m) (coefficient (k - suc j) a * 2 ^ m)
@@ -53,6 +54,9 @@ module _ (m g : ℕ) (top : g / 2 ^ m ≡ 1) (k a : ℕ) (h : a < 2 ^ k) where
   kept-all =
       let e : k - k ≡ 0 = omega arith in
       kept-is k (omega arith) ∙ ap (λ (i : ℕ). remainder m g (a / 2 ^ i * 2 ^ m)) e ∙ ap (λ (y : ℕ). remainder m g (y * 2 ^ m)) (div-one a)
+
+  pub taken-kept : (j : ℕ) → j ≤ k → {f r : List ℕ} → Feedback m g f → Taken a (k - j) f r → TopHolds m (kept m g k a j) r
+  taken-kept j b {f} {r} d t = subst (λ (x : ℕ). TopHolds m x r) (sym (kept-is j b)) (t .holds d)
 
 module _ (sheet : List ℕ) (e : IsAccepted sheet) where
   abbrev x : Stated
@@ -78,13 +82,13 @@ module _ (sheet : List ℕ) (e : IsAccepted sheet) where
         w .2 .low ∙ sym (kept-all m (generatorOf x) top (dimensionOf x) (maskOf messageWeight (dimensionOf x) message) (mask-lt messageWeight (dimensionOf x) message)),
       )
 
-  clean : (c : ℕ) → c < 2 ^ x .n → (isCodeword m (generatorOf x) c ≡ true) ↔ (kept m (generatorOf x) (x .n) c (x .n) ≡ 0)
+  zero-iff : (c : ℕ) → c < 2 ^ x .n → (isCodeword m (generatorOf x) c ≡ true) ↔ (kept m (generatorOf x) (x .n) c (x .n) ≡ 0)
   unfolding isCodeword
-  clean c h =
+  zero-iff c h =
       let is : isCodeword m (generatorOf x) (c * 2 ^ m) ≡ isCodeword m (generatorOf x) c = RoundTrip.codeword-raised short sheet (omega arith) e m c in (
         λ t. kept-all m (generatorOf x) top (x .n) c h ∙ eqb-true (remainder m (generatorOf x) (c * 2 ^ m)) 0 (is ∙ t),
         λ z. sym is ∙ eq-eqb (remainder m (generatorOf x) (c * 2 ^ m)) 0 (sym (kept-all m (generatorOf x) top (x .n) c h) ∙ z),
       )
 
-  pub clean-said : (word : List ℕ) → CodewordOf x (wordOf x word) ↔ (kept m (generatorOf x) (x .n) (wordOf x word) (x .n) ≡ 0)
-  clean-said word = Iff·trans (Iff·symm (codeword-said sheet word)) (clean (wordOf x word) (mask-lt wordWeight (x .n) word))
+  pub word-said : (word : List ℕ) → CodewordOf x (wordOf x word) ↔ (kept m (generatorOf x) (x .n) (wordOf x word) (x .n) ≡ 0)
+  word-said word = Iff·trans (Iff·symm (codeword-said sheet word)) (zero-iff (wordOf x word) (mask-lt wordWeight (x .n) word))

@@ -5,7 +5,7 @@
 --   Ready, ready       what an accepted sheet grants the entries: its numbers, and its representatives as they were read
 --   part, usable-part, given, terms-few, states      what encoding, reading out and decoding need
 --   listable, lists    what the listing needs
---   right, marked, clean, page-needs, card-listed      D marked again, and the page
+--   right, marked, none-marked, page-needs, card-listed      D marked again, and the page
 use mathlib.Core.Path.{_≡_, refl, sym, ap, ap₂, _∙_, subst}
 use mathlib.Core.Bool.{Bool, false, not, _||_, _&&_}
 use mathlib.Core.List.{List, [], _∷_}
@@ -221,9 +221,9 @@ right {n} {s} {reps} u = some-false _ (length reps) (λ i h. one i h (ℕ-discre
 pub marked : {n s : ℕ} {reps z : List ℕ} {wrong : Bool} → Coded n s reps → SetMarked n reps z wrong → Marks n reps z
 marked u f = f .marks (f .is ∙ right u)
 
-pub clean : {n : ℕ} (m : ℕ) → n ≤ m → Marks n [] (replicate m 0)
+pub none-marked : {n : ℕ} (m : ℕ) → n ≤ m → Marks n [] (replicate m 0)
 unfolding inSet some
-clean m l = record {
+none-marked m l = record {
   long = omega (arith, length-replicate {A = ℕ} m 0);
   at = λ i q. getD-replicate {A = ℕ} m i 0 0 (omega arith);
 }

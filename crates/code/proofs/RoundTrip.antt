@@ -2,6 +2,7 @@
 --
 --   Placed               places in bytes, as many as they take, with no spare bit; Message, Word: those of the sheet
 --   codewordOf, messageIn      the codeword of a message, and the message in a word, in bytes
+--   generator-top, codeword-raised      the generator's degree, and x^j times a codeword
 --   encodes              every message is encoded, into codewordOf
 --   codeword-word, codeword-is      which is a word, and a codeword
 --   reads                a codeword is read into messageIn

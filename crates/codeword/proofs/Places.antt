@@ -3,7 +3,7 @@
 --   Weights w              w gives the eight places of each byte its eight weights, each to one
 --   word-weights, message-weights      both layouts do
 --   place-lt, place-is     a place is 0 or 1: the digit of its byte
---   read, read-lt, put     what the code's shifts and masks do
+--   read, put              what the code's shifts and masks do
 --   mask-lt, mask-coefficient, mask-above      the mask of the first n places
 --   bytes-length, bytes-place      the bytes of a mask
 --   mask-of-bytes, bytes-of-mask   masks below 2^n, and bytes with no spare bit, are the same thing
@@ -145,9 +145,6 @@ module _ {w : ℕ → ℕ} (W : Weights w) where
   -- ---- a place read and set, as the code does it
   pub read : (l : List ℕ) (i : ℕ) → bitAnd (getD l (i / 8) 0 / 2 ^ W .shift (i % 8)) 1 ≡ place w l i
   read l i = and-mask (getD l (i / 8) 0 / 2 ^ W .shift (i % 8)) 1 ∙ sym (place-is l i)
-
-  pub read-lt : (l : List ℕ) (i : ℕ) → bitAnd (getD l (i / 8) 0 / 2 ^ W .shift (i % 8)) 1 < 2
-  read-lt l i = rw (read l i) (place-lt w l i)
 
   shifted : (x p : ℕ) → x < 2 → p < 8 → x * 2 ^ p % 256 ≡ x * 2 ^ p
   shifted x p hx hp = shl-exact 1 p 8 hx (omega arith)

@@ -8,42 +8,41 @@
 --   message-places, remainder-places, joint-places      eight places of a message above a remainder
 --   Placing, placing-start, placing-more, placing-end      all places, eight at a time
 --   encoded-bytes        with the remainder of the message, the bytes of its codeword
---   copied-start, copied-more, copied-end      a message's whole bytes
+--   bytes-read-start, bytes-read-more, bytes-read-end      a message's whole bytes
 --   Reading, reading-start, reading-more, reading-end      and the places of the last one
 use mathlib.Core.Path.{_≡_, refl, sym, ap, ap₂, _∙_, subst}
-use mathlib.Core.Logic.{_≢_, _⊎_, inl, inr}
-use mathlib.Core.Bool.{Bool, true, false, not}
+use mathlib.Core.Logic.{_⊎_, inl, inr}
+use mathlib.Core.Bool.{Bool, not}
 use mathlib.Core.List.{List}
-use Prim.Native.Nat.{ℕ, zero, suc, _+_, _-_, _*_, _/_, _%_, _^_, _≤_, _<_}
+use Prim.Native.Nat.{ℕ, _+_, _-_, _*_, _/_, _%_, _^_, _≤_, _<_}
 use native.Mathlib.Nat.{add-comm, add-mul, add-mul-div-right, div-one, mod-lt, mul-assoc, mul-comm, zero-mul, zero-div}
 use native.Mathlib.Decide.{ℕ-discrete}
 use native.Mathlib.Omega.{arith}
 use lib.Bits.{bitAnd, and-mask}
 use lib.Dec.{eqb}
-use lib.ListN.{length, getD, set, replicate, length-set, length-replicate, getD-replicate, List·getD-eq-default}
-use lib.Pow.{pow-pos, pow-add, pow-mono, shl-shr, shr-shr, shr-lt, shr-le, high}
+use lib.ListN.{length, getD, set, replicate, length-replicate, getD-replicate, List·getD-eq-default}
+use lib.Pow.{pow-pos, pow-add, pow-mono, shl-shr, shr-shr, high}
 use lib.Seq.{getD-set-same, getD-set-other}
-use borrow.Author.Tests.{eq-eqb, ne-eqb, eqb-true, eqb-false}
+use borrow.Author.Tests.{eq-eqb, ne-eqb}
 use Rattle.algebra.proofs.Poly.{le-or-lt}
 use Rattle.field.specs.Mask.{coefficient, clmul, remainder}
 use Rattle.field.specs.Field.{Degree}
-use Rattle.field.specs.Tables.{RoundFillable}
 use Rattle.field.proofs.MaskProduct.{clmul-pow}
 use Rattle.cyclic.proofs.Places.{coefficient-zero}
-use Rattle.document.specs.Layout.{wordWeight, messageWeight, bytesFor, place, maskOf, bytesOf}
+use Rattle.document.specs.Layout.{wordWeight, messageWeight, bytesFor, place, maskOf}
 use Rattle.document.specs.Coset.{dimension}
 use Rattle.document.specs.Generator.{generator, isCodeword, encodeMask, messageOf}
 use Rattle.document.proofs.Theory.{Length, degree}
 use Rattle.document.proofs.GeneratorIs.{generator-degree}
 use Rattle.document.proofs.Encoding.{raised-is}
-use Rattle.binary.specs.Packed.{packed, placesIn, Register, Feedback, Taken}
+use Rattle.binary.specs.Packed.{packed, placesIn, TopHolds, Taken}
 use Rattle.binary.proofs.Digits.{digit-low}
 use Rattle.binary.proofs.Passing.{packed-none}
 use Rattle.binary.proofs.Feeding.{raised-low}
-use Rattle.generator.specs.Building.{Lengths, RoomWhereSmall, Multiplied}
+use Rattle.generator.specs.Building.{Lengths, Multiplied}
 use Rattle.generator.proofs.LowPlaces.{clmul-low}
 use Rattle.codeword.specs.Place.{Put, turned, wholeMask}
-use Rattle.codeword.specs.Codewords.{Coded, Usable, Fresh, FeedbackMade, RemainderTested, Encodable, EightOf, PlacesWritten, CodewordWritten, BytesCopied, MessageRead}
+use Rattle.codeword.specs.Codewords.{Coded, Usable, Fresh, FeedbackMade, RemainderTested, Encodable, EightOf, PlacesWritten, CodewordWritten, BytesRead, MessageRead}
 use Rattle.codeword.proofs.Places.{word-weights, message-weights, place-is, mask-coefficient, mask-above, bytes-same}
 use Rattle.codeword.proofs.Eight.{turned-digit, whole-is}
 
@@ -62,7 +61,7 @@ split-long n k h e = let q : n ≡ n - k + k = omega arith in e ∙ ap bytesFor 
 module _ (reps f : List ℕ) {n m : ℕ} {f₁ f₂ r₂ : List ℕ} (l : Length n) (em : m ≡ n - dimension n reps) (room : n ≤ placesIn f)
     (l₁ : length f₁ ≡ length f) (l₂ : length f₂ ≡ length f₁) (pw : packed f₁ ≡ 2 ^ (placesIn f - m) % 2 ^ placesIn f)
     (t : Multiplied (generator n reps) f₁ f₂ r₂) where
-  held : Register m (generator n reps % 2 ^ m) f₂
+  held : TopHolds m (generator n reps % 2 ^ m) f₂
   held =
       let all : placesIn f ≡ m + (placesIn f - m) = omega (arith, em, room) in
       record {
@@ -76,7 +75,7 @@ module _ (reps f : List ℕ) {n m : ℕ} {f₁ f₂ r₂ : List ℕ} (l : Length
 
   pub feedback-made : FeedbackMade n reps f₂ r₂
   feedback-made = record {
-    feedback = record { top = generator-degree l reps; held = subst (λ (d : ℕ). Register d (generator n reps % 2 ^ d) f₂) em held };
+    feedback = record { top = generator-degree l reps; held = subst (λ (d : ℕ). TopHolds d (generator n reps % 2 ^ d) f₂) em held };
     empty = t .clear;
   }
 
@@ -110,7 +109,7 @@ above a m p i h =
     ∙ add-mul-div-right p (a * 2 ^ (m - i)) (pow-pos i) ∙ add-comm (p / 2 ^ i) (a * 2 ^ (m - i))
 
 -- what a register holds, from place i on
-from : {m p : ℕ} {r : List ℕ} (i : ℕ) {j : ℕ} → Register m p r → j ≡ placesIn r - m + i → packed r / 2 ^ j ≡ p / 2 ^ i
+from : {m p : ℕ} {r : List ℕ} (i : ℕ) {j : ℕ} → TopHolds m p r → j ≡ placesIn r - m + i → packed r / 2 ^ j ≡ p / 2 ^ i
 from {m} {p} {r} i {j} t e =
     ap₂ (λ (x y : ℕ). x / 2 ^ y) (t .is) e ∙ sym (shr-shr (p * 2 ^ (placesIn r - m)) (placesIn r - m) i)
     ∙ ap (λ (x : ℕ). x / 2 ^ i) (shl-shr p (placesIn r - m))
@@ -174,7 +173,7 @@ joint-places message r {m} {i} {j} {low} {up} h e ql qu = record {
 
 -- ---- all places, eight at a time
 pub record Placing (message : List ℕ) (m : ℕ) (r : List ℕ) (j : ℕ) (out : List ℕ) : Type 0 where
-  pub at : {p : ℕ} → Register m p r → (i : ℕ) → i < j * 8 → place wordWeight out i ≡ coefficient i (wholeMask messageWeight message * 2 ^ m + p)
+  pub at : {p : ℕ} → TopHolds m p r → (i : ℕ) → i < j * 8 → place wordWeight out i ≡ coefficient i (wholeMask messageWeight message * 2 ^ m + p)
 
 pub placing-start : {message : List ℕ} {m : ℕ} {r out : List ℕ} → Placing message m r 0 out
 placing-start = record { at = λ t i h. absurd (omega arith) }
@@ -203,12 +202,9 @@ pub encoded-bytes : {n k s m : ℕ} {reps message f r₀ r out₀ out : List ℕ
     → ((i : ℕ) → getD out i 0 < 256) → CodewordWritten n k reps message out
 unfolding encodeMask
 encoded-bytes {n} {k} {s} {m} {reps} {message} {f} {r₀} {r} {out₀} {out} u c em t a p long bytes =
-    let c₀ : ℕ = maskOf messageWeight k message in
-    let d : ℕ = n - dimension n reps in
-    let g : ℕ = generator n reps in
     let is : m ≡ n - dimension n reps = em ∙ ap (λ (x : ℕ). n - x) (u .k-is) in
-    let h : Register (n - dimension n reps) (remainder (n - dimension n reps) (generator n reps) (maskOf messageWeight k message * 2 ^ (n - dimension n reps))) r =
-    subst (λ (x : ℕ). Register (n - dimension n reps) (remainder (n - dimension n reps) (generator n reps) (x * 2 ^ (n - dimension n reps))) r) (div-one (maskOf messageWeight k message))
+    let h : TopHolds (n - dimension n reps) (remainder (n - dimension n reps) (generator n reps) (maskOf messageWeight k message * 2 ^ (n - dimension n reps))) r =
+    subst (λ (x : ℕ). TopHolds (n - dimension n reps) (remainder (n - dimension n reps) (generator n reps) (x * 2 ^ (n - dimension n reps))) r) (div-one (maskOf messageWeight k message))
     (a .holds (t .feedback)) in
     let w : wholeMask messageWeight message ≡ maskOf messageWeight k message = whole-is messageWeight k message (c .message-long) (c .no-spare) in
     let q : PlacesWritten message (n - dimension n reps) r out = subst (λ (x : ℕ). PlacesWritten message x r out) is p in
@@ -219,12 +215,12 @@ encoded-bytes {n} {k} {s} {m} {reps} {message} {f} {r₀} {r} {out₀} {out} u c
     }
 
 -- ---- reading out
-pub copied-start : {m : ℕ} {word out : List ℕ} → BytesCopied m 0 word out out
-copied-start = record { at = λ j h. absurd (omega arith); rest = λ i h. refl }
+pub bytes-read-start : {m : ℕ} {word out : List ℕ} → BytesRead m 0 word out out
+bytes-read-start = record { at = λ j h. absurd (omega arith); rest = λ i h. refl }
 
-pub copied-more : {m j i₀ v : ℕ} {word out out′ : List ℕ} → BytesCopied m j word out out′ → i₀ ≡ m + 8 * j → i₀ + 8 ≤ length word * 8
-    → v ≡ wholeMask wordWeight word / 2 ^ i₀ % 256 → j < length out′ → BytesCopied m (j + 1) word out (set out′ j v)
-copied-more {m} {j} {i₀} {v} {word} {out} {out′} t e room q h = record {
+pub bytes-read-more : {m j i₀ v : ℕ} {word out out′ : List ℕ} → BytesRead m j word out out′ → i₀ ≡ m + 8 * j → i₀ + 8 ≤ length word * 8
+    → v ≡ wholeMask wordWeight word / 2 ^ i₀ % 256 → j < length out′ → BytesRead m (j + 1) word out (set out′ j v)
+bytes-read-more {m} {j} {i₀} {v} {word} {out} {out′} t e room q h = record {
   at = λ i l. elim (ℕ-discrete (i / 8) j) [
     | yes s ↦ (let d : i₀ + i % 8 ≡ m + i = omega arith in
         place-is message-weights (set out′ j v) i
@@ -238,8 +234,8 @@ copied-more {m} {j} {i₀} {v} {word} {out} {out′} t e room q h = record {
   rest = λ i l. getD-set-other out′ j i v 0 (λ s. omega arith) ∙ t .rest i (omega arith);
 }
 
-pub copied-end : {m j count : ℕ} {word out out′ : List ℕ} → j ≡ count → BytesCopied m j word out out′ → BytesCopied m count word out out′
-copied-end {m} {j} {count} {word} {out} {out′} e t = subst (λ (k : ℕ). BytesCopied m k word out out′) e t
+pub bytes-read-end : {m j count : ℕ} {word out out′ : List ℕ} → j ≡ count → BytesRead m j word out out′ → BytesRead m count word out out′
+bytes-read-end {m} {j} {count} {word} {out} {out′} e t = subst (λ (k : ℕ). BytesRead m k word out out′) e t
 
 pub record Reading (m k : ℕ) (word : List ℕ) (i : ℕ) (out : List ℕ) : Type 0 where
   pub at : (j : ℕ) → j < i → place messageWeight out j ≡ place wordWeight word (m + j)
@@ -247,7 +243,7 @@ pub record Reading (m k : ℕ) (word : List ℕ) (i : ℕ) (out : List ℕ) : Ty
   pub bytes : (j : ℕ) → getD out j 0 < 256
 
 pub reading-start : (out : List ℕ) {m k e : ℕ} {word out′ : List ℕ} → 1 ≤ k → length out ≡ bytesFor k → e ≡ length out - 1
-    → BytesCopied m (k / 8) word (set out e 0) out′ → ((j : ℕ) → getD out′ j 0 < 256) → Reading m k word (k / 8 * 8) out′
+    → BytesRead m (k / 8) word (set out e 0) out′ → ((j : ℕ) → getD out′ j 0 < 256) → Reading m k word (k / 8 * 8) out′
 unfolding bytesFor
 reading-start out {m} {k} {e} {word} {out′} pos long ee t small = record {
   at = t .at;

@@ -3,13 +3,13 @@
 --   Coded n s reps          a code of length n with these representatives
 --   Usable n k s reps       one that has messages, with its k
 --   Fresh n s f r e g       slices for a code of length n: f and r hold 0, and e and g have room for tables
---   FeedbackMade n reps f r f holds the generator as a register's feedback, and r holds 0
+--   FeedbackMade n reps f r      f holds the generator as a register's feedback, and r holds 0
 --   RemainderTested n reps word r      r says whether a word is no codeword
 --   Encodable n k message out     lengths of a message without spare bits and of its codeword
 --   EightOf message m r i x       x is eight places from i on of the word that has the message above what the register r holds
 --   PlacesWritten message m r out      the bytes of that word
 --   CodewordWritten n k reps message out      the bytes of a message's codeword
---   Readable, MessageRead   the same for reading out; BytesCopied m count word out out′: its first whole bytes
+--   Readable, MessageRead   the same for reading out; BytesRead m count word out out′: its first whole bytes
 use mathlib.Core.Path.{_≡_}
 use mathlib.Core.Bool.{Bool, false, not}
 use mathlib.Core.List.{List}
@@ -21,7 +21,7 @@ use Rattle.document.specs.Layout.{wordWeight, messageWeight, bytesFor, place, m
 use Rattle.document.specs.Coset.{dimension}
 use Rattle.document.specs.Generator.{generator, isCodeword, encodeMask, messageOf}
 use Rattle.document.proofs.Theory.{Length}
-use Rattle.binary.specs.Packed.{packed, placesIn, Register, Feedback}
+use Rattle.binary.specs.Packed.{packed, placesIn, TopHolds, Feedback}
 use Rattle.generator.specs.Building.{Rising, RoomWhereSmall}
 use Rattle.codeword.specs.Place.{wholeMask}
 
@@ -59,10 +59,10 @@ pub record Encodable (n k : ℕ) (message out : List ℕ) : Type 0 where
 
 pub record EightOf (message : List ℕ) (m : ℕ) (r : List ℕ) (i x : ℕ) : Type 0 where
   pub small : x < 256
-  pub is : {p : ℕ} → Register m p r → x ≡ (wholeMask messageWeight message * 2 ^ m + p) / 2 ^ i % 256
+  pub is : {p : ℕ} → TopHolds m p r → x ≡ (wholeMask messageWeight message * 2 ^ m + p) / 2 ^ i % 256
 
 pub record PlacesWritten (message : List ℕ) (m : ℕ) (r out : List ℕ) : Type 0 where
-  pub at : {p : ℕ} → Register m p r → (i : ℕ) → i < length out * 8
+  pub at : {p : ℕ} → TopHolds m p r → (i : ℕ) → i < length out * 8
       → place wordWeight out i ≡ coefficient i (wholeMask messageWeight message * 2 ^ m + p)
 
 pub record CodewordWritten (n k : ℕ) (reps message out : List ℕ) : Type 0 where
@@ -74,7 +74,7 @@ pub record Readable (m k : ℕ) (word out : List ℕ) : Type 0 where
   pub k-pos : 1 ≤ k
   pub most : m + k ≤ 65535
 
-pub record BytesCopied (m count : ℕ) (word out out′ : List ℕ) : Type 0 where
+pub record BytesRead (m count : ℕ) (word out out′ : List ℕ) : Type 0 where
   pub at : (j : ℕ) → j < count * 8 → place messageWeight out′ j ≡ place wordWeight word (m + j)
   pub rest : (i : ℕ) → count ≤ i → getD out′ i 0 ≡ getD out i 0
 

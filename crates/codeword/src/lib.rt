@@ -1,6 +1,6 @@
 // Words and messages in bytes; the codeword of a message, the message of a codeword, and which words are codewords.
 
-// single places, eight at once, and spare bits of bytes
+// single places, four or eight at once, and spare bits
 pub mod layout;
 
 // what the encoder keeps: a remainder by the generator

@@ -10,7 +10,7 @@ ghost use Rattle.codeword.specs.Codewords.{Coded, Fresh, FeedbackMade};
 use crate::layout::message_place;
 use crate::layout::word_place;
 use binary::packed::power_of_x;
-use binary::register::step;
+use binary::register::take_bit;
 use generator::generator::times_generator;
 
 // The generator, of degree m, as the feedback of the register, which lends room for making it and holds 0 before and after.
@@ -39,7 +39,7 @@ pub fn take_message(message: &[u8], k: usize, feedback: &[u64], register: &mut [
     let mut i = k;
     while 0 < i {
         let bit = message_place(message, i - 1) as u64;
-        step(register, feedback, bit);
+        take_bit(register, feedback, bit);
         i = i - 1;
     }
 }
@@ -52,7 +52,7 @@ pub fn take_word(word: &[u8], n: usize, feedback: &[u64], register: &mut [u64])
     let mut i = n;
     while 0 < i {
         let bit = word_place(word, i - 1) as u64;
-        step(register, feedback, bit);
+        take_bit(register, feedback, bit);
         i = i - 1;
     }
 }

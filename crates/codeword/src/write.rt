@@ -1,9 +1,8 @@
 // Codewords and messages written into bytes.
-ghost use mathlib.Core.Path.{_≡_};
 ghost use Prim.Native.Nat.{_+_, _*_, _<_, _≤_};
 ghost use lib.ListN.{length};
 ghost use Rattle.binary.specs.Packed.{placesIn};
-ghost use Rattle.codeword.specs.Codewords.{Usable, Fresh, Encodable, EightOf, PlacesWritten, CodewordWritten, Readable, BytesCopied, MessageRead};
+ghost use Rattle.codeword.specs.Codewords.{Usable, Fresh, Encodable, EightOf, PlacesWritten, CodewordWritten, Readable, BytesRead, MessageRead};
 use crate::layout::eight_message_places;
 use crate::layout::eight_word_places;
 use crate::layout::set_message_place;
@@ -75,7 +74,7 @@ pub fn write_codeword(
 // The first whole bytes of a message, as many as `count`, whose places are those of the word from m on.
 fn write_whole_bytes(word: &[u8], m: usize, count: usize, out: &mut [u8])
     requires { ⌜ (m + count * 8 ≤ length (now word) * 8) × (length (now word) ≤ 8192) × (count ≤ length (now out)) ⌝ }
-    ensures { λ _. ⌜ BytesCopied m count (now (word .entry)) (now (out .entry)) (now (out .exit)) ⌝ }
+    ensures { λ _. ⌜ BytesRead m count (now (word .entry)) (now (out .entry)) (now (out .exit)) ⌝ }
 {
     let mut j: usize = 0;
     while j < count {

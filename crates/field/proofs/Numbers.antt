@@ -1,7 +1,7 @@
 -- The field on plain numbers: what callers of the code know of its results.
 --
 --   multiply-lt, product-lt, power-lt      results are elements
---   multiply-comm, multiply-assoc, multiply-zero, zero-multiply, multiply-one      of products
+--   multiply-comm, multiply-assoc, multiply-add, add-multiply, multiply-zero, zero-multiply, multiply-one      of products
 --   el-power, el-root, el-ne      a power is the power of the element, α is the theory's root, and only 0 is 0
 --   power-z, power-s, power-add   of exponents
 --   power-order, power-round      ω^(2^s - 1) = 1, and so round and round
@@ -18,10 +18,11 @@ use borrow.Author.Tests.{eqb-true, eq-eqb, ne-eqb}
 use Rattle.algebra.proofs.Ring.{mul-one, mul-comm, mul-assoc, mul-zero}
 use Rattle.algebra.proofs.Power.{pow, pow-z, pow-s, pow-add, pow-inj}
 use Rattle.algebra.proofs.Field.{pow-ne}
-use Rattle.field.specs.Mask.{clmul}
+use Rattle.field.specs.Mask.{_⊕_, clmul, remainder}
 use Rattle.field.specs.Field.{mask, Degree, ω, fieldMultiply, fieldPower, α, logarithm, inverses}
 use Rattle.field.proofs.Search.{Least, least-is, least-unique, keep-one, keep-none}
-use Rattle.field.proofs.Remainder.{remainder-lt}
+use Rattle.field.proofs.MaskProduct.{clmul-add-r}
+use Rattle.field.proofs.Remainder.{remainder-lt, remainder-add}
 use Rattle.field.proofs.Primitive.{primitive, Degree-bounds}
 use Rattle.field.proofs.Elements.{GF, el, el-inj, el-zero, el-one, el-mul, gen}
 use Rattle.field.proofs.Elements.{gen-order, log, mul-inverse, isField, root}
@@ -63,6 +64,14 @@ module _ {s : ℕ} (d : Degree s) where
       (el-mul d (fieldMultiply s a b) c ∙ ap (λ x. GF d .mul x (el d c)) (el-mul d a b)
       ∙ mul-assoc (GF d) (el d a) (el d b) (el d c)
       ∙ sym (el-mul d a (fieldMultiply s b c) ∙ ap (λ x. GF d .mul (el d a) x) (el-mul d b c)))
+
+  pub multiply-add : (x a b : ℕ) → fieldMultiply s x (a ⊕ b) ≡ fieldMultiply s x a ⊕ fieldMultiply s x b
+  unfolding fieldMultiply
+  multiply-add x a b =
+      ap (remainder s (mask s)) (clmul-add-r x a b) ∙ remainder-add s (mask s) (primitive d .pos) (primitive d .deg) (clmul x a) (clmul x b)
+
+  pub add-multiply : (a b x : ℕ) → fieldMultiply s (a ⊕ b) x ≡ fieldMultiply s a x ⊕ fieldMultiply s b x
+  add-multiply a b x = multiply-comm (a ⊕ b) x ∙ multiply-add x a b ∙ ap₂ _⊕_ (multiply-comm x a) (multiply-comm x b)
 
   pub multiply-one : (a : ℕ) → a < 2 ^ s → fieldMultiply s a 1 ≡ a
   multiply-one a h =

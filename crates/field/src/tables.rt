@@ -1,4 +1,4 @@
-// Filling the tables: the powers of ω five times round, and the logarithms.
+// Filling the tables: the powers of ω, once or five times round, and the logarithms.
 ghost use mathlib.Core.Path.{_≡_};
 ghost use Prim.Native.Nat.{_-_, _^_};
 ghost use Rattle.field.specs.Tables.{RoundFillable, Fillable, Powers, Logs, Filled};

@@ -23,27 +23,24 @@ use Rattle.cyclic.proofs.Lift.{lt-of-degree}
 use Rattle.document.specs.Generator.{rootProduct, generator}
 use Rattle.document.proofs.Sane.{set-size}
 use Rattle.document.proofs.GeneratorIs.{generator-degree}
+use Rattle.binary.proofs.Passing.{xor-is}
 use Rattle.generator.specs.Coset.{CosetOf, FromValue, Factored}
-use Rattle.generator.proofs.AtOmega.{valueOf, value-times, value-one, value-held}
+use Rattle.generator.proofs.AtOmega.{polyValue, poly-value-times, poly-value-one, poly-value-held}
 use Rattle.generator.proofs.CosetWalk.{walk, CosetWalked, length-of, degree-of}
 use Rattle.generator.proofs.Factor.{walked-size, walked-holds}
 
-xor-is : (x y : ℕ) → bitXor x y ≡ x ⊕ y
-unfolding _⊕_
-xor-is x y = refl
-
 -- ---- the value
 pub cosetValue : ℕ → ℕ → ℕ → ℕ → ℕ
-cosetValue n s r m = valueOf s ω (rootProduct s (α s n) (walk n r m))
+cosetValue n s r m = polyValue s ω (rootProduct s (α s n) (walk n r m))
 
 module _ {n s r : ℕ} (c : CosetOf n s r) where
   pub value-start : 1 ≡ cosetValue n s r 0
   unfolding cosetValue walk rootProduct
-  value-start = sym (value-one (degree-of c) ω)
+  value-start = sym (poly-value-one (degree-of c) ω)
 
   next : (m : ℕ) → cosetValue n s r (suc m) ≡ fieldMultiply s (ω ⊕ fieldPower s (α s n) (r * 2 ^ m % n)) (cosetValue n s r m)
   unfolding cosetValue walk rootProduct
-  next m = value-times (degree-of c) ω (fieldPower s (α s n) (r * 2 ^ m % n)) (rootProduct s (α s n) (walk n r m))
+  next m = poly-value-times (degree-of c) ω (fieldPower s (α s n) (r * 2 ^ m % n)) (rootProduct s (α s n) (walk n r m))
 
   pub value-next : (m : ℕ) {x root : ℕ} → x ≡ r * 2 ^ m % n → root ≡ fieldPower s (α s n) x
       → fieldMultiply s (bitXor root 2) (cosetValue n s r m) ≡ cosetValue n s r (m + 1)
@@ -96,7 +93,7 @@ module _ {n s r : ℕ} (c : CosetOf n s r) where
       let size = walked-size c w in record {
         mask-is = t .mask-is (w .most)
             (ap (λ (i : ℕ). generator n (r ∷ []) / 2 ^ i) (size ∙ sym (set-size n (r ∷ []))) ∙ generator-degree (length-of c) (r ∷ []))
-            (e ∙ value-held (degree-of c) (rootProduct s (α s n) (walk n r m)) (generator n (r ∷ [])) (walked-holds c w));
+            (e ∙ poly-value-held (degree-of c) (rootProduct s (α s n) (walk n r m)) (generator n (r ∷ [])) (walked-holds c w));
         degree-is = t .degree-is ∙ size;
         most = omega (arith, t .degree-is, w .most);
       }

@@ -1,24 +1,14 @@
 -- Products of masks in their lowest places only.
 --
---   low-add          the lowest w places of a sum
---   clmul-low        those of a product need those of a factor only
+--   clmul-low        the lowest places of a product need those of a factor only
 --   clmul-on         a product with one factor more
 use mathlib.Core.Path.{_≡_, sym, ap, _∙_}
 use Prim.Native.Nat.{ℕ, _*_, _/_, _%_, _^_}
-use native.Mathlib.Nat.{div-add-mod', mod-lt, mul-mod-left}
-use lib.Bits.{xor-shifted, xor-mod}
-use lib.Pow.{pow-pos}
+use native.Mathlib.Nat.{mul-mod-left}
 use Rattle.field.specs.Mask.{_⊕_, clmul}
 use Rattle.field.proofs.Xor.{⊕-zero-l}
 use Rattle.field.proofs.MaskProduct.{clmul-add-r, clmul-assoc, clmul-pow}
-
-low-add : (a b w : ℕ) → (a ⊕ b) % 2 ^ w ≡ (a % 2 ^ w) ⊕ (b % 2 ^ w)
-unfolding _⊕_
-low-add a b w = xor-mod a b w
-
-parts : (x w : ℕ) → (x / 2 ^ w * 2 ^ w) ⊕ (x % 2 ^ w) ≡ x
-unfolding _⊕_
-parts x w = xor-shifted (x / 2 ^ w) w (x % 2 ^ w) (mod-lt x (pow-pos w)) ∙ div-add-mod' x (2 ^ w)
+use Rattle.binary.proofs.Feeding.{low-sum, split-mask}
 
 clmul-high : (f y w : ℕ) → clmul f (y * 2 ^ w) ≡ clmul f y * 2 ^ w
 clmul-high f y w = ap (clmul f) (sym (clmul-pow y w)) ∙ sym (clmul-assoc f y (2 ^ w)) ∙ clmul-pow (clmul f y) w
@@ -26,9 +16,9 @@ clmul-high f y w = ap (clmul f) (sym (clmul-pow y w)) ∙ sym (clmul-assoc f y (
 pub clmul-low : (f x w : ℕ) → clmul f (x % 2 ^ w) % 2 ^ w ≡ clmul f x % 2 ^ w
 clmul-low f x w =
     sym
-    (ap (λ (y : ℕ). clmul f y % 2 ^ w) (sym (parts x w))
+    (ap (λ (y : ℕ). clmul f y % 2 ^ w) (split-mask x w)
     ∙ ap (λ (y : ℕ). y % 2 ^ w) (clmul-add-r f (x / 2 ^ w * 2 ^ w) (x % 2 ^ w) ∙ ap (λ (y : ℕ). y ⊕ clmul f (x % 2 ^ w)) (clmul-high f (x / 2 ^ w) w))
-    ∙ low-add (clmul f (x / 2 ^ w) * 2 ^ w) (clmul f (x % 2 ^ w)) w
+    ∙ low-sum w (clmul f (x / 2 ^ w) * 2 ^ w) (clmul f (x % 2 ^ w))
     ∙ ap (λ (y : ℕ). y ⊕ (clmul f (x % 2 ^ w) % 2 ^ w)) (mul-mod-left (clmul f (x / 2 ^ w)) (2 ^ w))
     ∙ ⊕-zero-l (clmul f (x % 2 ^ w) % 2 ^ w))
 

@@ -7,7 +7,7 @@
 --   run-below             over all places of a mask it is the mask's value
 use mathlib.Core.Path.{_≡_, sym, ap, ap₂, _∙_, subst}
 use mathlib.Core.List.{List}
-use Prim.Native.Nat.{ℕ, zero, suc, _+_, _-_, _*_, _^_, _<_}
+use Prim.Native.Nat.{ℕ, zero, suc, _+_, _*_, _^_, _<_}
 use native.Mathlib.Nat.{add-mul, one-mul, zero-mul}
 use native.Mathlib.Omega.{arith}
 use lib.Bits.{bitXor}
@@ -16,8 +16,7 @@ use lib.Pow.{pow-pos}
 use Rattle.field.specs.Mask.{_⊕_}
 use Rattle.field.specs.Field.{Degree, ω, fieldMultiply, fieldPower}
 use Rattle.field.proofs.Xor.{digit, ⊕-assoc, ⊕-lt, ⊕-swap4, ⊕-zero-r}
-use Rattle.field.proofs.Elements.{GF, el-inj, el-add, el-mul}
-use Rattle.field.proofs.Numbers.{power-lt, power-add, multiply-lt, multiply-zero}
+use Rattle.field.proofs.Numbers.{power-lt, power-add, multiply-lt, multiply-add, multiply-zero}
 use Rattle.binary.specs.Bits.{Holds}
 use Rattle.binary.specs.Lanes.{lane}
 use Rattle.syndrome.specs.Sums.{sumBelow}
@@ -25,12 +24,6 @@ use Rattle.syndrome.specs.Columns.{runSum, Summable, LaneSums, Valued}
 use Rattle.syndrome.proofs.Columning.{run-z, run-s}
 
 module _ {s : ℕ} (d : Degree s) where
-  multiply-add : (x a b : ℕ) → fieldMultiply s x (a ⊕ b) ≡ fieldMultiply s x a ⊕ fieldMultiply s x b
-  multiply-add x a b =
-      el-inj d (multiply-lt d x (a ⊕ b)) (⊕-lt s _ _ (multiply-lt d x a) (multiply-lt d x b))
-      (el-mul d x (a ⊕ b) ∙ ap (GF d .mul _) (el-add d a b) ∙ GF d .law-mul-add _ _ _
-      ∙ sym (el-add d _ _ ∙ ap₂ (GF d .add) (el-mul d x a) (el-mul d x b)))
-
   multiply-digit : (x c : ℕ) → c < 2 → (y : ℕ) → c * fieldMultiply s x y ≡ fieldMultiply s x (c * y)
   multiply-digit x c h y =
       digit (λ (b : ℕ). b * fieldMultiply s x y ≡ fieldMultiply s x (b * y))
@@ -39,7 +32,7 @@ module _ {s : ℕ} (d : Degree s) where
 
   -- a ⊕ x u, term by term
   level : (x a b u v : ℕ) → (a ⊕ b) ⊕ fieldMultiply s x (u ⊕ v) ≡ (a ⊕ fieldMultiply s x u) ⊕ (b ⊕ fieldMultiply s x v)
-  level x a b u v = ap (λ (y : ℕ). (a ⊕ b) ⊕ y) (multiply-add x u v) ∙ ⊕-swap4 a b (fieldMultiply s x u) (fieldMultiply s x v)
+  level x a b u v = ap (λ (y : ℕ). (a ⊕ b) ⊕ y) (multiply-add d x u v) ∙ ⊕-swap4 a b (fieldMultiply s x u) (fieldMultiply s x v)
 
   pub run-lt : (f p : ℕ → ℕ) → ((i : ℕ) → p i < 2) → (m : ℕ) → runSum (λ i. fieldPower s ω (f i)) p m < 2 ^ s
   run-lt f p bits zero = subst (λ (x : ℕ). x < 2 ^ s) (sym (run-z (λ i. fieldPower s ω (f i)) p)) (pow-pos s)
@@ -80,11 +73,11 @@ module _ {s : ℕ} (d : Degree s) where
     four : (k : ℕ) → rule (term k 0 0) (term k 1 0) (term k 2 0) (term k 3 0) ≡ term k 0 0 ⊕ (term k 1 1 ⊕ (term k 2 2 ⊕ term k 3 3))
     four k =
         let e₂ : fieldMultiply s X (term k 2 0 ⊕ fieldMultiply s X (term k 3 0)) ≡ term k 2 1 ⊕ term k 3 2 =
-        ap (λ (y : ℕ). fieldMultiply s X (term k 2 0 ⊕ y)) (up k 3 0) ∙ multiply-add X (term k 2 0) (term k 3 1)
+        ap (λ (y : ℕ). fieldMultiply s X (term k 2 0 ⊕ y)) (up k 3 0) ∙ multiply-add d X (term k 2 0) (term k 3 1)
         ∙ ap₂ _⊕_ (up k 2 0) (up k 3 1) in
         ap (λ (y : ℕ). term k 0 0 ⊕ y)
-        (ap (λ (y : ℕ). fieldMultiply s X (term k 1 0 ⊕ y)) e₂ ∙ multiply-add X (term k 1 0) (term k 2 1 ⊕ term k 3 2)
-        ∙ ap₂ _⊕_ (up k 1 0) (multiply-add X (term k 2 1) (term k 3 2) ∙ ap₂ _⊕_ (up k 2 1) (up k 3 2)))
+        (ap (λ (y : ℕ). fieldMultiply s X (term k 1 0 ⊕ y)) e₂ ∙ multiply-add d X (term k 1 0) (term k 2 1 ⊕ term k 3 2)
+        ∙ ap₂ _⊕_ (up k 1 0) (multiply-add d X (term k 2 1) (term k 3 2) ∙ ap₂ _⊕_ (up k 2 1) (up k 3 2)))
 
     -- the sum over all places, and over every fourth from j on
     abbrev whole : ℕ → ℕ

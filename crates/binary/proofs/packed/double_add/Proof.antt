@@ -1,18 +1,18 @@
 -- `binary::packed::double_add` meets its contract: the first i numbers are done, and the carry is what came up.
 use native.Mathlib.Omega.{arith}
-use mathlib.Core.Path.{_≡_, refl, _∙_}
-use Prim.Native.Nat.{_-_, _*_, _%_, _^_, _<_, _≤_}
-use lib.ListN.{length, getD, length-set}
+use mathlib.Core.Path.{_≡_, refl}
+use Prim.Native.Nat.{_-_, _*_, _%_, _≤_}
+use lib.ListN.{length, length-set}
 use Rattle.field.proofs.Xor.{digit-lt}
 use Rattle.binary.proofs.Passing.{Passing, passing-start, passing-more, passing-end, carry-lt}
 use Rattle.binary.proofs.packed.double_add.Statement.{statement}
 use Rattle.binary.proofs.packed.double_add.Tie as tie
 
 abbrev Inv-loop : tie.InvT-loop
-Inv-loop w₀ g mask end carry₀ i₀ w carry i = (length w ≡ length w₀) × (length w₀ ≡ length g) × (mask ≡ mask % 2 * 18446744073709551615) × (end ≡ length w₀) × (i ≤ end) × Passing i (mask % 2) carry g w₀ w
+Inv-loop w₀ g selector end carry₀ i₀ w carry i = (length w ≡ length w₀) × (length w₀ ≡ length g) × (selector ≡ selector % 2 * 18446744073709551615) × (end ≡ length w₀) × (i ≤ end) × Passing i (selector % 2) carry g w₀ w
 
 abbrev μ-loop : tie.MeasureT-loop
-μ-loop w₀ g mask end carry₀ i₀ w carry i = end - i
+μ-loop w₀ g selector end carry₀ i₀ w carry i = end - i
 
 double-add-two-requires : tie.Need-double-add-two-requires Inv-loop μ-loop
 double-add-two-requires c κs = let p = c .before .before .before .before .pre in (c .before .if1 .taken, omega (arith, p .0, c .before .if1 .taken), p .1)
@@ -60,7 +60,7 @@ same-length-2 : tie.Need-same-length-2 Inv-loop μ-loop
 same-length-2 c = c .before .loop .inv .0
 
 returns-2 : tie.Need-returns-2 Inv-loop μ-loop
-returns-2 c = let v = c .before .loop .inv in passing-end (omega (arith, v .0, v .3, v .4)) (v .0) (v .1) (digit-lt (c .before .before .before .before .before .args .mask)) (v .5)
+returns-2 c = let v = c .before .loop .inv in passing-end (omega (arith, v .0, v .3, v .4)) (v .0) (v .1) (digit-lt (c .before .before .before .before .before .args .selector)) (v .5)
 
 pub double-add-spec : {M : Type 1} → statement M
 double-add-spec =

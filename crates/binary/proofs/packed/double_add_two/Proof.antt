@@ -31,7 +31,7 @@ same-length : tie.Need-same-length
 same-length c = search needs
 
 returns : tie.Need-returns
-returns c = let p = c .before .before .before .before .pre in let a = c .before .before .before .before .args in passing-two (a .mask) (a .g .now) (a .w .now) (p .0) (p .1) (p .2) (λ i. omega (arith, c .shared-slice-known2 .given i)) (λ i. omega (arith, c .before .before .before .slice-known .given i)) _ _ refl refl
+returns c = let p = c .before .before .before .before .pre in let a = c .before .before .before .before .args in passing-two (a .selector) (a .g .now) (a .w .now) (p .0) (p .1) (p .2) (λ i. omega (arith, c .shared-slice-known2 .given i)) (λ i. omega (arith, c .before .before .before .slice-known .given i)) _ _ refl refl
 
 pub double-add-two-spec : {M : Type 1} → statement M
 double-add-two-spec =

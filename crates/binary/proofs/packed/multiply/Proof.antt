@@ -1,8 +1,8 @@
 -- `binary::packed::multiply` meets its contract: the product with the coefficients of f from i on stands.
 use native.Mathlib.Omega.{arith}
-use mathlib.Core.Path.{_≡_, refl, sym, ap, _∙_}
+use mathlib.Core.Path.{_≡_, refl, ap, _∙_}
 use Prim.Native.Nat.{ℕ, _-_, _*_, _/_, _%_, _^_, _≤_, _<_}
-use lib.Bits.{bitAnd, and-mask}
+use lib.Bits.{and-mask}
 use lib.ListN.{length}
 use Rattle.field.specs.Mask.{_⊕_, clmul}
 use Rattle.binary.specs.Packed.{packed, placesIn}

@@ -1,19 +1,14 @@
+-- `code::card::card_accepted` meets its contract: generator, marks and record, written.
 use native.Mathlib.Omega.{arith}
 use mathlib.Core.Path.{sym, ap}
 use Prim.Native.Nat.{ℕ, _*_}
 use lib.ListN.{length-replicate}
 use Rattle.codeword.proofs.Words.{lengths-of, fresh}
 use Rattle.generator.proofs.Assembly.{multiplied-one}
-use Rattle.code.proofs.Ready.{clean, page-needs, card-listed}
+use Rattle.code.proofs.Ready.{none-marked, page-needs, card-listed}
 use borrow.Author.Needs.{needs}
 use Rattle.code.proofs.card.card_accepted.Statement.{statement}
 use Rattle.code.proofs.card.card_accepted.Tie as tie
-use Rattle.code.proofs.card.card_accepted.Reads as reads
-use Rattle.code.proofs.card.card_accepted.Lts as lts
-use Rattle.binary.proofs.packed.power_of_x.Reads as power-of-x-reads
-use Rattle.code.proofs.card.mark_set.Reads as mark-set-reads
-use Rattle.generator.proofs.generator.times_generator.Reads as times-generator-reads
-use Rattle.listing.proofs.page.write_accepted.Reads as write-accepted-reads
 
 slice-aggregate-power-of-x : tie.Need-slice-aggregate-power-of-x
 slice-aggregate-power-of-x c = search needs
@@ -41,7 +36,7 @@ slice-aggregate-mark-set : tie.Need-slice-aggregate-mark-set
 slice-aggregate-mark-set c = search needs
 
 mark-set-requires : tie.Need-mark-set-requires
-mark-set-requires c κs = let p = c .before .before .before .before .before .before .before .before .before .before .before .before .before .before .before .before .pre .0 in (p .usable .coded, clean 128 (omega (arith, p .most)))
+mark-set-requires c κs = let p = c .before .before .before .before .before .before .before .before .before .before .before .before .before .before .before .before .pre .0 in (p .usable .coded, none-marked 128 (omega (arith, p .most)))
 
 slice-aggregate-write-accepted : tie.Need-slice-aggregate-write-accepted
 slice-aggregate-write-accepted c = search needs

@@ -1,3 +1,4 @@
+-- `code::encode::encode_accepted` meets its contract: one law for each exit.
 use native.Mathlib.Omega.{arith}
 use mathlib.Core.Path.{sym, _∙_}
 use Rattle.codeword.proofs.Words.{fresh}
@@ -5,11 +6,6 @@ use Rattle.code.proofs.Entries.{encode-message, encode-out, encode-spar
 use borrow.Author.Needs.{needs}
 use Rattle.code.proofs.encode.encode_accepted.Statement.{statement}
 use Rattle.code.proofs.encode.encode_accepted.Tie as tie
-use Rattle.code.proofs.encode.encode_accepted.Reads as reads
-use Rattle.code.proofs.encode.encode_accepted.Lts as lts
-use Rattle.codeword.proofs.layout.bytes_for.Reads as bytes-for-reads
-use Rattle.codeword.proofs.layout.spare_message.Reads as spare-message-reads
-use Rattle.codeword.proofs.write.write_codeword.Reads as write-codeword-reads
 
 bytes-for-requires : tie.Need-bytes-for-requires
 bytes-for-requires c κs = search needs

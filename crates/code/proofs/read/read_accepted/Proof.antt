@@ -1,3 +1,4 @@
+-- `code::read::read_accepted` meets its contract: one law for each exit.
 use native.Mathlib.Omega.{arith}
 use mathlib.Core.Path.{sym, _∙_}
 use Rattle.codeword.proofs.Words.{fresh, split-long}
@@ -5,12 +6,6 @@ use Rattle.code.proofs.Entries.{read-word, read-out, read-spare, read-n
 use borrow.Author.Needs.{needs}
 use Rattle.code.proofs.read.read_accepted.Statement.{statement}
 use Rattle.code.proofs.read.read_accepted.Tie as tie
-use Rattle.code.proofs.read.read_accepted.Reads as reads
-use Rattle.code.proofs.read.read_accepted.Lts as lts
-use Rattle.codeword.proofs.layout.bytes_for.Reads as bytes-for-reads
-use Rattle.codeword.proofs.layout.spare_word.Reads as spare-word-reads
-use Rattle.codeword.proofs.test.no_codeword.Reads as no-codeword-reads
-use Rattle.codeword.proofs.write.write_message.Reads as write-message-reads
 
 bytes-for-requires : tie.Need-bytes-for-requires
 bytes-for-requires c κs = search needs

@@ -1,3 +1,4 @@
+-- `codeword::layout::eight_word_places` meets its contract: eight places out of two neighbouring bytes, turned, or of the last one.
 use native.Mathlib.Omega.{arith}
 use Prim.Native.Nat.{_+_, _-_, _/_, _%_}
 use lib.ListN.{getD}
@@ -6,9 +7,6 @@ use Rattle.codeword.proofs.Eight.{turned-lt, shifted-lt, word-sum, word
 use borrow.Author.Needs.{needs}
 use Rattle.codeword.proofs.layout.eight_word_places.Statement.{statement}
 use Rattle.codeword.proofs.layout.eight_word_places.Tie as tie
-use Rattle.codeword.proofs.layout.eight_word_places.Reads as reads
-use Rattle.codeword.proofs.layout.eight_word_places.Lts as lts
-use Rattle.codeword.proofs.layout.turned_byte.Reads as turned-byte-reads
 
 shared-slice-read-turned-byte : tie.Need-shared-slice-read-turned-byte
 shared-slice-read-turned-byte c = search needs

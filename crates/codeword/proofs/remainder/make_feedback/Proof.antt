@@ -1,12 +1,8 @@
-use native.Mathlib.Omega.{arith}
+-- `codeword::remainder::make_feedback` meets its contract: what comes up past the last number is dropped.
 use Rattle.codeword.proofs.Words.{feedback-made}
 use borrow.Author.Needs.{needs}
 use Rattle.codeword.proofs.remainder.make_feedback.Statement.{statement}
 use Rattle.codeword.proofs.remainder.make_feedback.Tie as tie
-use Rattle.codeword.proofs.remainder.make_feedback.Reads as reads
-use Rattle.codeword.proofs.remainder.make_feedback.Lts as lts
-use Rattle.binary.proofs.packed.power_of_x.Reads as power-of-x-reads
-use Rattle.generator.proofs.generator.times_generator.Reads as times-generator-reads
 
 mul-power-of-x : tie.Need-mul-power-of-x
 mul-power-of-x c = search needs

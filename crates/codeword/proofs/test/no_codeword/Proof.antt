@@ -1,3 +1,4 @@
+-- `codeword::test::no_codeword` meets its contract: x^m times a word has remainder 0 exactly where the word has.
 use native.Mathlib.Omega.{arith}
 use mathlib.Core.Path.{sym, ap, _∙_}
 use Prim.Native.Nat.{ℕ, _-_}
@@ -6,11 +7,6 @@ use Rattle.codeword.proofs.Words.{tested}
 use borrow.Author.Needs.{needs}
 use Rattle.codeword.proofs.test.no_codeword.Statement.{statement}
 use Rattle.codeword.proofs.test.no_codeword.Tie as tie
-use Rattle.codeword.proofs.test.no_codeword.Reads as reads
-use Rattle.codeword.proofs.test.no_codeword.Lts as lts
-use Rattle.binary.proofs.packed.is_zero.Reads as is-zero-reads
-use Rattle.codeword.proofs.remainder.make_feedback.Reads as make-feedback-reads
-use Rattle.codeword.proofs.remainder.take_word.Reads as take-word-reads
 
 sub-make-feedback : tie.Need-sub-make-feedback
 sub-make-feedback c = search needs

@@ -1,3 +1,4 @@
+-- `codeword::write::eight_codeword_places` meets its contract: places of the message, of the register, or of both.
 use native.Mathlib.Omega.{arith}
 use mathlib.Core.Path.{refl}
 use Prim.Native.Nat.{_-_}
@@ -6,10 +7,6 @@ use Rattle.codeword.proofs.Words.{message-places, remainder-places, joi
 use borrow.Author.Needs.{needs}
 use Rattle.codeword.proofs.write.eight_codeword_places.Statement.{statement}
 use Rattle.codeword.proofs.write.eight_codeword_places.Tie as tie
-use Rattle.codeword.proofs.write.eight_codeword_places.Reads as reads
-use Rattle.codeword.proofs.write.eight_codeword_places.Lts as lts
-use Rattle.binary.proofs.packed.eight_places.Reads as eight-places-reads
-use Rattle.codeword.proofs.layout.eight_message_places.Reads as eight-message-places-reads
 
 eight-message-places-requires : tie.Need-eight-message-places-requires
 eight-message-places-requires c κs = search needs

@@ -1,3 +1,4 @@
+-- `codeword::write::write_codeword` meets its contract: the message above its remainder.
 use native.Mathlib.Omega.{arith}
 use mathlib.Core.Path.{refl, sym, ap, _∙_}
 use Prim.Native.Nat.{ℕ, _-_}
@@ -6,11 +7,6 @@ use Rattle.codeword.proofs.Words.{for-most, encoded-bytes}
 use borrow.Author.Needs.{needs}
 use Rattle.codeword.proofs.write.write_codeword.Statement.{statement}
 use Rattle.codeword.proofs.write.write_codeword.Tie as tie
-use Rattle.codeword.proofs.write.write_codeword.Reads as reads
-use Rattle.codeword.proofs.write.write_codeword.Lts as lts
-use Rattle.codeword.proofs.remainder.make_feedback.Reads as make-feedback-reads
-use Rattle.codeword.proofs.remainder.take_message.Reads as take-message-reads
-use Rattle.codeword.proofs.write.write_places.Reads as write-places-reads
 
 sub-make-feedback : tie.Need-sub-make-feedback
 sub-make-feedback c = search needs

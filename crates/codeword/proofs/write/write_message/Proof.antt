@@ -1,4 +1,4 @@
-use borrow.Author.Needs.{needs}
+-- `codeword::write::write_message` meets its contract: whole bytes, then the places of the last one.
 use native.Mathlib.Omega.{arith}
 use mathlib.Core.Path.{_≡_, refl, sym, _∙_, subst}
 use Prim.Native.Nat.{ℕ, _+_, _-_, _≤_, _<_}
@@ -8,11 +8,6 @@ use Rattle.codeword.proofs.Places.{place-lt, for-le}
 use Rattle.codeword.proofs.Words.{for-most, Reading, reading-start, reading-more, reading-end}
 use Rattle.codeword.proofs.write.write_message.Statement.{statement}
 use Rattle.codeword.proofs.write.write_message.Tie as tie
-use Rattle.codeword.proofs.write.write_message.Reads as reads
-use Rattle.codeword.proofs.write.write_message.Lts as lts
-use Rattle.codeword.proofs.layout.set_message_place.Reads as set-message-place-reads
-use Rattle.codeword.proofs.layout.word_place.Reads as word-place-reads
-use Rattle.codeword.proofs.write.write_whole_bytes.Reads as write-whole-bytes-reads
 
 abbrev Inv-loop : tie.InvT-loop
 Inv-loop word m k out₀ i₀ out i = (length word ≡ bytesFor (m + k)) × (m + k ≤ 65535) × (length out₀ ≡ bytesFor k) × (length out ≡ length out₀) × (i ≤ k) × Reading m k word i out

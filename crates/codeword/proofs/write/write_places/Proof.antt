@@ -1,4 +1,4 @@
-use borrow.Author.Needs.{needs}
+-- `codeword::write::write_places` meets its contract: the places of the first j bytes stand.
 use native.Mathlib.Omega.{arith}
 use mathlib.Core.Path.{_≡_, refl}
 use Prim.Native.Nat.{_+_, _-_, _*_, _≤_, _<_}
@@ -8,10 +8,6 @@ use Rattle.codeword.proofs.Eight.{turned-lt}
 use Rattle.codeword.proofs.Words.{Placing, placing-start, placing-more, placing-end}
 use Rattle.codeword.proofs.write.write_places.Statement.{statement}
 use Rattle.codeword.proofs.write.write_places.Tie as tie
-use Rattle.codeword.proofs.write.write_places.Reads as reads
-use Rattle.codeword.proofs.write.write_places.Lts as lts
-use Rattle.codeword.proofs.layout.turned_byte.Reads as turned-byte-reads
-use Rattle.codeword.proofs.write.eight_codeword_places.Reads as eight-codeword-places-reads
 
 abbrev Inv-loop : tie.InvT-loop
 Inv-loop message m register out₀ end j₀ out j = (m ≤ placesIn register) × (placesIn register ≤ 65535) × (length out₀ * 8 < m + length message * 8 + 8) × (length out₀ ≤ 8191) × (1 ≤ length message) × (end ≡ length out₀) × (length out ≡ length out₀) × (j ≤ end) × Placing message m register j out

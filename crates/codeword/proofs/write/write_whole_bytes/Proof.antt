@@ -1,24 +1,21 @@
-use borrow.Author.Needs.{needs}
+-- `codeword::write::write_whole_bytes` meets its contract: the first j bytes stand.
 use native.Mathlib.Omega.{arith}
 use mathlib.Core.Path.{_≡_, refl}
 use Prim.Native.Nat.{_+_, _-_, _*_, _≤_}
 use lib.ListN.{length, length-set}
-use Rattle.codeword.specs.Codewords.{BytesCopied}
-use Rattle.codeword.proofs.Words.{copied-start, copied-more, copied-end}
+use Rattle.codeword.specs.Codewords.{BytesRead}
+use Rattle.codeword.proofs.Words.{bytes-read-start, bytes-read-more, bytes-read-end}
 use Rattle.codeword.proofs.write.write_whole_bytes.Statement.{statement}
 use Rattle.codeword.proofs.write.write_whole_bytes.Tie as tie
-use Rattle.codeword.proofs.write.write_whole_bytes.Reads as reads
-use Rattle.codeword.proofs.write.write_whole_bytes.Lts as lts
-use Rattle.codeword.proofs.layout.eight_word_places.Reads as eight-word-places-reads
 
 abbrev Inv-loop : tie.InvT-loop
-Inv-loop word m count out₀ j₀ out j = (m + count * 8 ≤ length word * 8) × (length word ≤ 8192) × (count ≤ length out₀) × (length out ≡ length out₀) × (j ≤ count) × BytesCopied m j word out₀ out
+Inv-loop word m count out₀ j₀ out j = (m + count * 8 ≤ length word * 8) × (length word ≤ 8192) × (count ≤ length out₀) × (length out ≡ length out₀) × (j ≤ count) × BytesRead m j word out₀ out
 
 abbrev μ-loop : tie.MeasureT-loop
 μ-loop word m count out₀ j₀ out j = count - j
 
 loop-holds : tie.Need-loop-holds Inv-loop μ-loop
-loop-holds c = let p = c .before .before .pre in (p .0, p .1, p .2, refl, omega arith, copied-start)
+loop-holds c = let p = c .before .before .pre in (p .0, p .1, p .2, refl, omega arith, bytes-read-start)
 
 mul-eight-word-places : tie.Need-mul-eight-word-places Inv-loop μ-loop
 mul-eight-word-places c = let v = c .before .loop .inv in omega (arith, v .0, v .1)
@@ -42,13 +39,13 @@ loop-less : tie.Need-loop-less Inv-loop μ-loop
 loop-less c = omega arith
 
 loop-again : tie.Need-loop-again Inv-loop μ-loop
-loop-again c = let v = c .before .before .loop .inv in (v .0, v .1, v .2, simp length-set (v .3), omega arith, copied-more (v .5) refl (omega (arith, v .0)) (c .eight-word-places .ensures) (omega (arith, v .2, v .3)))
+loop-again c = let v = c .before .before .loop .inv in (v .0, v .1, v .2, simp length-set (v .3), omega arith, bytes-read-more (v .5) refl (omega (arith, v .0)) (c .eight-word-places .ensures) (omega (arith, v .2, v .3)))
 
 same-length : tie.Need-same-length Inv-loop μ-loop
 same-length c = c .before .loop .inv .3
 
 returns : tie.Need-returns Inv-loop μ-loop
-returns c = let v = c .before .loop .inv in copied-end (omega (arith, v .4)) (v .5)
+returns c = let v = c .before .loop .inv in bytes-read-end (omega (arith, v .4)) (v .5)
 
 pub write-whole-bytes-spec : {M : Type 1} → statement M
 write-whole-bytes-spec =

@@ -9,10 +9,6 @@ use Rattle.field.specs.Tables.{Powers}
 use Rattle.field.proofs.Filling.{powers-round, filled, fillable-kept, round-fillable}
 use Rattle.field.proofs.tables.fill.Statement.{statement}
 use Rattle.field.proofs.tables.fill.Tie as tie
-use Rattle.field.proofs.tables.fill.Reads as reads
-use Rattle.field.proofs.tables.fill.Lts as lts
-use Rattle.field.proofs.product.order.Reads as order-reads
-use Rattle.field.proofs.tables.fill_round.Reads as fill-round-reads
 
 abbrev Inv-loop : tie.InvT-loop
 Inv-loop s powers₀ logs n end i₀ powers i = Degree s × (n ≡ 2 ^ s - 1) × (end ≡ 5 * n) × (5 * (2 ^ s - 1) ≤ length powers₀) × (length powers ≡ length powers₀) × (n ≤ i) × (i ≤ end) × Powers s i powers × (4 ≤ 2 ^ s) × (2 ^ s ≤ 4096)

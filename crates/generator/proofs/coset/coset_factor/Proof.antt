@@ -1,11 +1,7 @@
-use native.Mathlib.Omega.{arith}
+-- `generator::coset::coset_factor` meets its contract: either way gives the factor.
 use borrow.Author.Needs.{needs}
 use Rattle.generator.proofs.coset.coset_factor.Statement.{statement}
 use Rattle.generator.proofs.coset.coset_factor.Tie as tie
-use Rattle.generator.proofs.coset.coset_factor.Reads as reads
-use Rattle.generator.proofs.coset.coset_factor.Lts as lts
-use Rattle.generator.proofs.coset.factor_by_logarithms.Reads as factor-by-logarithms-reads
-use Rattle.generator.proofs.coset.factor_by_products.Reads as factor-by-products-reads
 
 factor-by-logarithms-requires : tie.Need-factor-by-logarithms-requires
 factor-by-logarithms-requires c κs = let p = c .before .before .before .pre in (p .0, p .1, p .2 .round (c .if1 .taken))

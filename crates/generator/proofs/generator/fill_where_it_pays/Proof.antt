@@ -1,12 +1,9 @@
+-- `generator::generator::fill_where_it_pays` meets its contract: the tables are filled, or nothing is said of them.
 use native.Mathlib.Omega.{arith}
 use Rattle.generator.proofs.Assembly.{one-round, no-round}
 use borrow.Author.Needs.{needs}
 use Rattle.generator.proofs.generator.fill_where_it_pays.Statement.{statement}
 use Rattle.generator.proofs.generator.fill_where_it_pays.Tie as tie
-use Rattle.generator.proofs.generator.fill_where_it_pays.Reads as reads
-use Rattle.generator.proofs.generator.fill_where_it_pays.Lts as lts
-use Rattle.field.proofs.product.order.Reads as order-reads
-use Rattle.field.proofs.tables.fill_round.Reads as fill-round-reads
 
 returns : tie.Need-returns
 returns c = no-round

@@ -1,3 +1,4 @@
+-- `generator::generator::times_coset` meets its contract: the factor of the coset is the generator of r alone.
 use native.Mathlib.Omega.{arith}
 use mathlib.Core.Path.{ap, _∙_}
 use Prim.Native.Nat.{ℕ, _%_, _^_}
@@ -7,11 +8,6 @@ use Rattle.generator.proofs.Assembly.{small-mask}
 use borrow.Author.Needs.{needs}
 use Rattle.generator.proofs.generator.times_coset.Statement.{statement}
 use Rattle.generator.proofs.generator.times_coset.Tie as tie
-use Rattle.generator.proofs.generator.times_coset.Reads as reads
-use Rattle.generator.proofs.generator.times_coset.Lts as lts
-use Rattle.binary.proofs.packed.hand_over.Reads as hand-over-reads
-use Rattle.binary.proofs.packed.multiply.Reads as multiply-reads
-use Rattle.generator.proofs.coset.coset_factor.Reads as coset-factor-reads
 
 coset-factor-requires : tie.Need-coset-factor-requires
 coset-factor-requires c κs = search needs

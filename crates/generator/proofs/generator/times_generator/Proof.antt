@@ -1,4 +1,4 @@
-use borrow.Author.Needs.{needs}
+-- `generator::generator::times_generator` meets its contract: the product with the generator of the representatives from i on stands.
 use native.Mathlib.Omega.{arith}
 use mathlib.Core.Path.{_≡_, refl, sym, ap, _∙_}
 use Prim.Native.Nat.{ℕ, _-_, _/_, _^_, _≤_}
@@ -9,11 +9,6 @@ use Rattle.generator.specs.Building.{Rising, Lengths}
 use Rattle.generator.proofs.Assembly.{degree-at, coset-at, Making, making-start, making-more, making-end}
 use Rattle.generator.proofs.generator.times_generator.Statement.{statement}
 use Rattle.generator.proofs.generator.times_generator.Tie as tie
-use Rattle.generator.proofs.generator.times_generator.Reads as reads
-use Rattle.generator.proofs.generator.times_generator.Lts as lts
-use Rattle.field.proofs.product.order.Reads as order-reads
-use Rattle.generator.proofs.generator.fill_where_it_pays.Reads as fill-where-it-pays-reads
-use Rattle.generator.proofs.generator.times_coset.Reads as times-coset-reads
 
 abbrev Inv-loop : tie.InvT-loop
 Inv-loop representatives n s product₀ other₀ powers logs filled exponent i₀ product other i = Lengths n s × Rising n representatives × (exponent ≡ (2 ^ s - 1) / n) × RoundWhere filled s powers logs × (i ≤ length representatives) × (length other₀ ≡ length product₀) × Making n i representatives product₀ product other

@@ -1,8 +1,8 @@
-use borrow.Author.Needs.{needs}
+-- `listing::write::put_digits` meets its contract: the first j coefficients are written.
 use native.Mathlib.Omega.{arith}
-use mathlib.Core.Path.{_≡_, refl, sym, ap, _∙_}
-use mathlib.Core.List.{List, [], _∷_}
-use Prim.Native.Nat.{ℕ, _+_, _-_, _/_, _^_, _≤_, _<_}
+use mathlib.Core.Path.{_≡_, refl, ap}
+use mathlib.Core.List.{[], _∷_}
+use Prim.Native.Nat.{ℕ, _+_, _-_, _/_, _^_, _≤_}
 use lib.ListN.{length}
 use Rattle.field.proofs.Xor.{digit-lt}
 use Rattle.binary.specs.Packed.{packed, placesIn}
@@ -12,10 +12,6 @@ use Rattle.listing.proofs.Pieces.{rows-start, rows-more, rows-end}
 use Rattle.listing.proofs.Writing.{piece-is}
 use Rattle.listing.proofs.write.put_digits.Statement.{statement}
 use Rattle.listing.proofs.write.put_digits.Tie as tie
-use Rattle.listing.proofs.write.put_digits.Reads as reads
-use Rattle.listing.proofs.write.put_digits.Lts as lts
-use Rattle.binary.proofs.packed.coefficient_at.Reads as coefficient-at-reads
-use Rattle.listing.proofs.piece.put.Reads as put-reads
 
 abbrev Inv-loop : tie.InvT-loop
 Inv-loop out₀ at generator count end₀ j₀ out end j = (at + count ≤ length out₀) × (count ≤ placesIn generator) × (length out ≡ length out₀) × (j ≤ count) × (end ≤ at + j) × Wrote (rows (digitIn generator) j) at out₀ out end

@@ -92,7 +92,8 @@ extern "C" {
                                          f not of degree 1 to 8, or without constant term; h 0, or not of smaller degree than f;
                                          L not 1 to 1023; or its zero byte not 0 */
 #define DUNEFORK_COMMON_FACTOR (-8)   /* the masks h and f of a certificate have a common factor */
-#define DUNEFORK_PERIOD (-9)          /* the period of a certificate's f is not coprime to n */
+#define DUNEFORK_PERIOD (-9)          /* two of f(x), f(a x), .. f(a^(n-1) x), for the mask f of a certificate and the code's root a, have a
+                                         common factor; where the period of f is coprime to n none have */
 #define DUNEFORK_TERM (-10)           /* a certificate has a term j below L that is 1 while b + j z modulo n is outside the defining set */
 #define DUNEFORK_BUFFER_LENGTH (-11)  /* the input or `out` has not its exact length */
 #define DUNEFORK_SPARE_BIT (-12)      /* a spare bit of the input is 1: a low one in a word's last byte, a high one in a message's */

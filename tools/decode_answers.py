@@ -99,7 +99,7 @@ class Code:
 # ---- certificates that prove much
 @lru_cache(None)
 def denominators(n, u):
-    # f of rule 3. Periods that are powers of 2 are left out where there are others: f is then a power of x + 1
+    # f whose period is coprime to n; entry_answers.py has sheets with others. Periods that are powers of 2 are left out where there are others: f is then a power of x + 1
     found = [f for f in range(2 ** u + 1, 2 ** (u + 1), 2) if gcd(period_of(f), n) == 1]
     return [f for f in found if period_of(f).bit_count() > 1] or found
 

@@ -4,6 +4,7 @@
 # For each sheet there are judge's answer, 'accepted n k s working d t terms' or 'refused number', the listing that card gives,
 # and what encode and read reply and leave in the buffer. Polynomials over two elements are sets of exponents, words and messages
 # masks over their places: word_bytes and message_bytes say how those lie in bytes, here and for the scripts that go by this one.
+from functools import lru_cache
 from math import gcd
 
 
@@ -33,6 +34,20 @@ def period(f):
     return p
 
 
+@lru_cache(None)
+def factors_shared(f, n):
+    # rule 3, as request 2026-03 has it: f(α^i x) and f(α^j x) have a common factor, for different i and j below n, exactly where some
+    # polynomial P of less than f's degree, not 0, has f as a divisor of P(x^n). tools/second_reading.py looks for the factors themselves
+    powers = [frozenset(divide({n * i}, f)[1]) for i in range(max(f))]
+    sums = {frozenset()}
+    for power in powers:
+        more = {power ^ s for s in sums}
+        if more & sums:
+            return True
+        sums |= more
+    return False
+
+
 def series(h, f, count):
     # long division from the low end: each step takes off the lowest term
     rest, terms = set(h), []
@@ -60,7 +75,7 @@ def certificate_answer(n, zeros, c):
         return 7, 0, 0
     if common_factor(f, h) > 0:
         return 8, 0, 0
-    if gcd(period(f), n) != 1:
+    if factors_shared(f, n):
         return 9, 0, 0
     for j, a in enumerate(series(h, f, terms)):
         if a and (b + j * z) % n not in zeros:
@@ -158,6 +173,35 @@ def known():
     yield sheet(127, bch, certificate(1, 1, 3, 1, 22), certificate(1, 1, 3, 1, 23), certificate(1, 1, 3, 1, 0))
     yield sheet(127, bch, certificate(1, 1, 3, 1, 20), certificate(1, 1, 3, 1, 21))
     yield sheet(127, [0] + bch, certificate(0, 1, 3, 1, 23), certificate(126, 126, 3, 1, 1))
+
+
+# Sheets of request 2026-03, found by search: f has a period that shares a factor with n, and no f(α^i x) and f(α^j x) have a common
+# factor. The length, the representatives, b, z, f, h, L, and d; but for the short ones d is above what a run of zeros proves.
+WIDER = (
+    (21, (1,), 1, 1, 19, 11, 8, 3), (21, (1, 3, 7), 14, 5, 19, 7, 15, 5), (21, (3, 5, 7, 9), 7, 17, 19, 5, 24, 7),
+    (21, (1, 3, 7, 9), 6, 17, 25, 1, 23, 7), (9, (0, 1), 0, 4, 19, 5, 15, 5), (9, (0, 1), 8, 1, 25, 15, 16, 5),
+    (15, (0, 3, 5), 5, 7, 67, 19, 17, 4), (33, (1, 3), 6, 31, 19, 3, 22, 7), (33, (1, 3), 1, 31, 25, 11, 24, 7),
+    (35, (3, 7, 15), 27, 31, 67, 15, 22, 5), (39, (3, 7), 34, 23, 19, 5, 24, 7), (39, (1, 3), 6, 19, 25, 1, 23, 7),
+    (45, (5, 7, 9, 15, 21), 0, 14, 285, 70, 56, 8), (51, (3, 9, 17, 19), 39, 38, 19, 3, 22, 7),
+    (51, (3, 5, 9, 17), 34, 37, 25, 11, 24, 7), (63, (3, 5, 7, 15, 27), 7, 17, 19, 5, 24, 7),
+    (63, (3, 7, 9, 11, 15), 12, 41, 25, 1, 21, 7), (65, (3, 5, 7), 34, 19, 285, 157, 32, 5),
+    (91, (1, 3, 7, 9, 13), 2, 46, 67, 9, 34, 7), (93, (3, 7, 21, 23, 45), 12, 58, 19, 3, 22, 7),
+    (93, (1, 3, 9, 17, 45), 3, 85, 25, 1, 21, 7), (105, (1, 3, 5, 9, 13, 15, 21, 25, 45), 72, 79, 285, 15, 61, 9),
+    (117, (3, 5, 9, 17, 21), 38, 38, 19, 1, 30, 9), (117, (1, 3, 9, 17, 21), 60, 95, 25, 3, 31, 9))
+
+
+def wider():
+    for n, representatives, b, z, f, h, terms, d in WIDER:
+        made = sheet(n, representatives, certificate(b, z, f, h, terms))
+        assert gcd(period(bits(f)), n) > 1 and answer(made).split()[5] == str(d)
+        yield made
+        # one term more; and beside another certificate, which 9 refuses where n has a factor of 3, or which is accepted
+        yield sheet(n, representatives, certificate(b, z, f, h, terms + 1))
+        yield sheet(n, representatives, certificate(b, z, f, h, terms), certificate(b, z, 7, 1, 1))
+        yield sheet(n, representatives, certificate(b, z, f, h, terms), certificate(min(representatives), 1, 3, 1, 1))
+    # 85 has no such f
+    for f in (19, 25, 67, 285):
+        yield sheet(85, [1], certificate(1, 1, f, 1, 1))
 
 
 def drawn(count):
@@ -304,7 +348,7 @@ def byte_examples():
     yield 2, b'\x80', 1, 'read refused 14 aa'
 
 
-SHEETS = list(known()) + list(drawn(400))
+SHEETS = list(known()) + list(drawn(400)) + list(wider())
 
 
 def entry_calls():

@@ -1,4 +1,4 @@
-# A second reading of document 01, with request 2026-01 of document 02, made from their text alone: judge, card, encode, read and decode
+# A second reading of document 01, with requests 2026-01 and 2026-03 of document 02, made from their text alone: judge, card, encode, read and decode
 # as searches and sums, with none of the product's code and none of entry_answers.py's. Polynomials over two elements are masks, as in the
 # document. What the document leaves open (card's buffer of 1,024 bytes and its 11, the last newline, the 0 that encode and read return)
 # is as docs/PROMISES.md says.
@@ -8,6 +8,8 @@
 from functools import lru_cache
 from itertools import combinations
 from math import gcd
+
+from field_factors import common_over
 
 MASKS = {2: 7, 3: 11, 4: 19, 5: 37, 6: 67, 7: 131, 8: 285, 9: 529, 10: 1033, 11: 2053, 12: 4179}
 
@@ -197,8 +199,14 @@ def rule_2_fails(n, members, c):
     return common(c.f, c.h) != 1
 
 
+@lru_cache(None)
+def factors_shared(n, f):
+    # request 2026-03: f(α^i x) and f(α^j x) for different i and j below n
+    return any(common_over(n, smallest_s(n), f, i, j) for i in range(n) for j in range(n) if i != j)
+
+
 def rule_3_fails(n, members, c):
-    return gcd(period(c.f), n) != 1
+    return factors_shared(n, c.f)
 
 
 def rule_4_fails(n, members, c):

@@ -15,7 +15,7 @@ static const char *meaning(int32_t answer) {
     case DUNEFORK_NO_MESSAGE: return "no place is left for a message";
     case DUNEFORK_RANGE: return "a field of a certificate is out of range";
     case DUNEFORK_COMMON_FACTOR: return "h and f of a certificate have a common factor";
-    case DUNEFORK_PERIOD: return "the period of a certificate's f is not coprime to n";
+    case DUNEFORK_PERIOD: return "two of a certificate's f(a^i x), i below n, have a common factor";
     case DUNEFORK_TERM: return "a certificate counts on a zero that the code does not have";
     case DUNEFORK_BUFFER_LENGTH: return "the input or the buffer has not its exact length";
     case DUNEFORK_SPARE_BIT: return "a spare bit of the input is 1";

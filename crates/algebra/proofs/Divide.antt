@@ -1,6 +1,6 @@
 -- Polynomials over a field: degrees, and division with remainder.
 --
---   Deg R n p         p has degree n exactly; Deg·mul: degrees add up
+--   Deg R n p         p has degree n exactly; Deg·mul, Deg·prod: degrees add up
 --   degree            a polynomial is 0 or has a degree
 --   short-zero        a product shorter than its first factor is 0
 --   poly-no-zero-divisors, poly-cancel      a factor that is not 0 cancels
@@ -9,12 +9,15 @@
 --   lead, lead-below  the multiple of d that takes the leading coefficient of p away
 --   PolyQuotient, divide  quotient and remainder
 --   divides-short     a polynomial shorter than its divisor is 0
-use mathlib.Core.Path.{_≡_, refl, sym, _∙_, ap}
+use mathlib.Core.Path.{_≡_, refl, sym, _∙_, ap, subst}
 use mathlib.Core.Logic.{_≢_, _⊎_, inl, inr, _↔_}
-use Prim.Native.Nat.{ℕ, zero, suc, _+_ as _+ℕ_, _-_ as _-ℕ_, _≤_, _<_}
+use mathlib.Core.List.{List, [], _∷_}
+use lib.ListN.{length}
+use Prim.Native.Nat.{ℕ, zero, suc, _+_ as _+ℕ_, _-_ as _-ℕ_, _*_ as _*ℕ_, _≤_, _<_}
 use native.Mathlib.Omega.{arith}
 use Rattle.algebra.proofs.Ring.{Ring, ring, mul-zero, zero-mul, eq-of-add, follows}
 use Rattle.algebra.proofs.Field.{Field, cancel, mul-ne}
+use Rattle.algebra.proofs.Lists.{prod}
 use Rattle.algebra.proofs.Coprime.{Divides, has-zero}
 use Rattle.algebra.proofs.Series.{Ser, const, add-at, zero-at, one-is}
 use Rattle.algebra.proofs.Poly.{Below, Below·weaken, Below·drop, Below·one, Below·zero, Below·add, Below·deg, below-0}
@@ -40,6 +43,17 @@ module _ {A : Type 0} (R : Ring A) where
       below = Below·deg R (b .below) (c .below);
       top = λ e. mul-ne R K _ _ (b .top) (c .top) (sym (mul-top R (b .below) (c .below)) ∙ e);
     }
+
+    pub Deg·prod : {B : Type 0} (f : B → ℕ → A) {u : ℕ} → ((b : B) → Deg u (f b)) → (l : List B)
+        → Deg (length l *ℕ u) (prod (Ser R) f l)
+    unfolding prod
+    Deg·prod f {u} h [] =
+        let e : 0 ≡ 0 *ℕ u = omega arith in
+        subst (λ (k : ℕ). Deg k 1ₛ) e
+        (record { below = Below·one R; top = λ z. K .one-ne (ap (λ p. p zero) (sym (one-is R)) ∙ z) })
+    Deg·prod f {u} h (b ∷ l) =
+        let e : u +ℕ length l *ℕ u ≡ suc (length l) *ℕ u = omega arith in
+        subst (λ (k : ℕ). Deg k (f b ⊗ prod (Ser R) f l)) e (Deg·mul (h b) (Deg·prod f h l))
 
     pub degree : (n : ℕ) (p : ℕ → A) → Below R n p → (p ≡ 0ₛ) ⊎ ((m : ℕ) × Deg m p)
     degree zero p b = inl (below-0 R b)

@@ -8,6 +8,7 @@ pub mod Sum
 pub mod Series
 pub mod Poly
 pub mod Divide
+pub mod CommonFactor
 pub mod Substitute
 pub mod Value
 pub mod Rows

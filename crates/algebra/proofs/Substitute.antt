@@ -2,13 +2,14 @@
 --
 --   sub R c p      p (c x): its k-th coefficient is c ^ k times that of p (sub-at)
 --   sub-one, sub-add, sub-mul     it is a homomorphism
+--   sub-unit, sub-sub     x ↦ x changes nothing, and substitutions compose
 --   sub-below, sub-poly, sub-deg  it keeps bounds, and degrees over a field if c is not 0
 --   sub-coprime    and what is coprime
 use mathlib.Core.Path.{_≡_, refl, sym, _∙_, fun-ext}
 use mathlib.Core.Logic.{_≢_}
 use Prim.Native.Nat.{ℕ, zero, suc}
-use Rattle.algebra.proofs.Ring.{Ring, ring, mul-assoc}
-use Rattle.algebra.proofs.Power.{pow, pow-z, pow-s}
+use Rattle.algebra.proofs.Ring.{Ring, ring, one-mul, mul-assoc}
+use Rattle.algebra.proofs.Power.{pow, pow-z, pow-s, one-pow, mul-pow}
 use Rattle.algebra.proofs.Field.{Field, mul-ne, pow-ne}
 use Rattle.algebra.proofs.Coprime.{Coprime}
 use Rattle.algebra.proofs.Series.{Ser, tl, const, add-at, one-is, mul-z, mul-s, const-mul-at}
@@ -75,6 +76,12 @@ module _ {A : Type 0} (R : Ring A) where
             ← go (tl p) k,
           )
           (simp (sub-at, pow-s, pow-z) (mix (pow R c k) (p zero) (q (suc k)) ((tl p ⊗ q) k)))
+
+  pub sub-unit : (p : ℕ → A) → sub 𝟙 p ≡ p
+  sub-unit p = fun-ext (λ k. sub-at 𝟙 p k ∙ rw one-pow (one-mul R (p k)))
+
+  pub sub-sub : (c d : A) (p : ℕ → A) → sub c (sub d p) ≡ sub (c * d) p
+  sub-sub c d p = fun-ext (λ k. simp (sub-at, mul-pow, mul-assoc))
 
   pub sub-coprime : {p q : ℕ → A} (c : A) → Coprime (Polys R) p q → Coprime (Polys R) (sub c p) (sub c q)
   sub-coprime {p} {q} c g = record {

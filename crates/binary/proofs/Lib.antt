@@ -1,5 +1,5 @@
 -- Laws, in reading order: degrees, divisors of numbers and of masks, the period, coefficients, power
--- series; then packed polynomials and registers.
+-- series; then packed polynomials and registers; then rows, and independent powers.
 pub mod Degree
 pub mod Coprime
 pub mod CommonFactor
@@ -13,3 +13,6 @@ pub mod Passing
 pub mod Window
 pub mod Feeding
 pub mod Taking
+pub mod Elimination
+pub mod RowsHeld
+pub mod IndependentPowers

@@ -1,6 +1,6 @@
 -- What the searches of Factor.antt mean, in both directions, with no search.
 --
---   coprime-iff                no number above 1 divides both
+--   coprime-iff, no-factor     no number above 1 divides both; none but 1
 --   product-coefficient        coefficient j of the product d·q: the sum of d_(j - i) q_i over i up to j, modulo 2
 --   mask-iff                   the mask d divides a
 --   factor-iff                 that is, some q makes every such sum the coefficient of a
@@ -13,7 +13,7 @@ use mathlib.Core.Path.{_≡_, refl, sym, ap, ap₂, _∙_}
 use mathlib.Core.Logic.{_↔_}
 use mathlib.Core.Bool.{Bool, true, false, _&&_}
 use Prim.Native.Nat.{ℕ, zero, suc, _+_, _-_, _*_, _/_, _%_, _^_, _≤_, _<_, _∣_}
-use native.Mathlib.Nat.{mod-eq-zero-of-dvd, dvd-of-mod-eq-zero, one-mul, div-one, mul-assoc, pow-suc}
+use native.Mathlib.Nat.{pos-of-dvd-of-pos, mod-eq-zero-of-dvd, dvd-of-mod-eq-zero, one-mul, div-one, mul-assoc, pow-suc}
 use native.Mathlib.Decide.{decLt, ℕ-discrete}
 use native.Mathlib.Omega.{arith}
 use lib.Pow.{pow-mono}
@@ -24,6 +24,7 @@ use Rattle.field.proofs.Search.{true-ne-false, some-at, some-of, total-s, total
 use Rattle.field.proofs.Xor.{digit-lt, ⊕-zero-r, ⊕-split, bit-⊕, bit-ext}
 use Rattle.field.proofs.MaskProduct.{size-lt, product-enough, clmul-comm}
 use Rattle.cyclic.proofs.Division.{_∣ₘ_, divides-iff}
+use Rattle.cyclic.proofs.NumberGcd.{NoFactor}
 use Rattle.cyclic.proofs.MaskGcd.{divisor-le}
 use Rattle.binary.specs.Factor.{coprime, degree, divides, common, period, Modulus}
 use Rattle.binary.proofs.Degree.{degree-top}
@@ -44,6 +45,13 @@ coprime-iff a b = (
   λ h. none a b (λ d l. is-false _ (λ e. let z = both-at d a b e in
       h d l (dvd-of-mod-eq-zero d (z .0)) (dvd-of-mod-eq-zero d (z .1)))),
 )
+
+-- a divisor that is not above 1 is 1
+pub no-factor : (a b : ℕ) → 0 < b → coprime a b ≡ true → NoFactor b a
+no-factor a b h e d x y = elim (decLt 1 d) [
+  | yes l ↦ absurd (coprime-iff a b .0 e d l y x)
+  | no l ↦ omega (arith, pos-of-dvd-of-pos x h)
+]
 
 -- ---- masks
 -- terms past x^j change no coefficient up to j

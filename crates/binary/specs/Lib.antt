@@ -1,4 +1,5 @@
 pub mod Factor
+pub mod Independence
 pub mod Bits
 pub mod Lanes
 pub mod Packed

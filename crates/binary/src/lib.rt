@@ -9,6 +9,9 @@ pub mod common;
 // the period of a mask
 pub mod period;
 
+// whether powers of x^n are independent modulo a mask
+pub mod independence;
+
 // polynomials in slices: products, powers of x, places
 pub mod packed;
 

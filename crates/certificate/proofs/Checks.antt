@@ -12,11 +12,13 @@ use native.Mathlib.Nat.{div-le-self}
 use native.Mathlib.Omega.{arith}
 use lib.ListN.{length}
 use lib.Pow.{pow-mono}
-use Rattle.binary.specs.Factor.{coprime, degree, common, period, Modulus, Ratio}
+use Rattle.field.specs.Field.{orderOfTwo}
+use Rattle.binary.specs.Factor.{degree, common, Modulus, Ratio}
 use Rattle.binary.proofs.Degree.{degree-low, degree-high, degree-eq}
 use Rattle.sheet.specs.declared.types.Certificate.{Certificate as CodeCertificate}
 use Rattle.document.specs.Answer.{Answer, returned, refused, firstOf, settle}
 use Rattle.document.specs.Sheet.{Certificate}
+use Rattle.document.specs.Apart.{factorsApart}
 use Rattle.document.specs.Certificate.{rule1, rule2, rule3, rule4, distance}
 use Rattle.document.specs.Judge.{certificateConditions}
 use Rattle.sheet.specs.Stage.{certificateAs}
@@ -68,11 +70,11 @@ module _ (most n : ℕ) (k : Certificate) (z : List ℕ) where
     check-8 b = record { is = λ reps m. hit-8 _ _ _ _ _ (sym a) (not-not (common (k .f) (k .h)) ∙ b) ∙ sym (check-is reps) }
 
     module _ (b : common (k .f) (k .h) ≡ false) where
-      pub check-9 : true ≡ not (coprime (period (k .f)) n) → CheckedBy most n k z (refused 9)
+      pub check-9 : true ≡ not (factorsApart (orderOfTwo n) n (k .f)) → CheckedBy most n k z (refused 9)
       unfolding rule2 rule3
       check-9 c = record { is = λ reps m. hit-9 _ _ _ _ _ (sym a) (not-not (common (k .f) (k .h)) ∙ b) (sym c) ∙ sym (check-is reps) }
 
-      module _ (c : false ≡ not (coprime (period (k .f)) n)) where
+      module _ (c : false ≡ not (factorsApart (orderOfTwo n) n (k .f))) where
         pub check-10 : Ruled n k z true → CheckedBy most n k z (refused 10)
         unfolding rule2 rule3
         check-10 d = record {

@@ -1,7 +1,7 @@
 -- The rules of a certificate in the theory's words.
 --
 --   register-digit    the terms of h/f are the theory's digits
---   no-factor, no-common      numbers that are coprime, and masks for which `common` says no, have no factor in common
+--   no-common         masks for which `common` says no have no factor in common
 --   Sound n reps c    a certificate that meets rules 1 to 4, whatever the largest L; sound-of: by the rules
 --   covered-here      rule 4 term by term
 --   theory            it is one of the theory, over the code of n and reps: distance-is, radius-is
@@ -10,7 +10,6 @@ use mathlib.Core.Logic.{_≢_, _⊎_, inl, inr}
 use mathlib.Core.Bool.{Bool, true, false, not, _||_}
 use mathlib.Core.List.{List}
 use Prim.Native.Nat.{ℕ, zero, suc, _+_, _-_, _*_, _/_, _%_, _<_}
-use native.Mathlib.Nat.{pos-of-dvd-of-pos}
 use native.Mathlib.Decide.{decLt, ℕ-discrete}
 use native.Mathlib.Omega.{arith}
 use lib.Dec.{T, eqb}
@@ -19,22 +18,24 @@ use borrow.Author.Tests.{eqb-true}
 use Rattle.field.specs.Mask.{_⊕_, clmul}
 use Rattle.field.proofs.Search.{true-ne-false, every-at}
 use Rattle.field.proofs.Xor.{digit-lt}
+use Rattle.field.proofs.OrderOfTwo.{order-divides}
 use Rattle.field.proofs.MaskProduct.{digit-mul, clmul-zero-l}
-use Rattle.binary.specs.Factor.{coprime, degree, common, period, terms, Modulus}
+use Rattle.binary.specs.Factor.{degree, common, terms}
 use Rattle.binary.proofs.Degree.{degree-top}
 use Rattle.binary.proofs.Series.{register, register-z, register-s, terms-at}
-use Rattle.binary.proofs.Meaning.{coprime-iff, common-iff, period-divisor}
-use Rattle.cyclic.proofs.NumberGcd.{NoFactor}
+use Rattle.binary.proofs.Meaning.{no-factor, common-iff}
 use Rattle.cyclic.proofs.MaskGcd.{NoCommon}
+use Rattle.cyclic.proofs.Period.{Denominator}
+use Rattle.cyclic.proofs.Apart.{FactorsApart}
 use Rattle.cyclic.proofs.Ratio.{next, digits, digits-z, digits-s}
-use Rattle.cyclic.proofs.Apart.{apart}
 use Rattle.cyclic.proofs.Radius.{distanceOf, radiusFor}
 use Rattle.cyclic.proofs.Syndromes as Syndromes
 use Rattle.cyclic.proofs.Certificate.{RationalCertificate, syndromes}
 use Rattle.document.specs.Sheet.{Certificate as Written}
 use Rattle.document.specs.Coset.{inSet}
 use Rattle.document.specs.Certificate.{rule2, rule3, rule4, distance, radius}
-use Rattle.document.proofs.Theory.{Length, T-of, codeOf}
+use Rattle.document.proofs.Theory.{Length, degree as degreeOf, T-of, codeOf}
+use Rattle.document.proofs.ApartIs.{apart-defined}
 use Rattle.document.proofs.Acceptance.{Rules}
 use Rattle.certificate.proofs.Ranges.{Ranged, ranged}
 
@@ -51,13 +52,7 @@ register-digit f h zero = ap (λ (r : ℕ). r % 2) (register-z f h) ∙ sym (dig
 register-digit f h (suc j) =
     ap (λ (r : ℕ). r % 2) (register-on f h j) ∙ register-digit f (next f h) j ∙ sym (digits-s f h j)
 
--- ---- factors: a divisor that is not above 1 is 1
-pub no-factor : (a b : ℕ) → 0 < b → coprime a b ≡ true → NoFactor b a
-no-factor a b h e d x y = elim (decLt 1 d) [
-  | yes l ↦ absurd (coprime-iff a b .0 e d l y x)
-  | no l ↦ omega (arith, pos-of-dvd-of-pos x h)
-]
-
+-- ---- factors: a mask that is not above 1 is 0 or 1
 no-common : (f h : ℕ) → 0 < f → common f h ≡ false → NoCommon f h
 no-common f h p e d x y = elim (decLt 1 d) [
   | yes l ↦ absurd (true-ne-false (common-iff f h p .1 (d, l, x, y)) e)
@@ -73,11 +68,11 @@ no-common f h p e d x y = elim (decLt 1 d) [
 pub record Sound (n : ℕ) (reps : List ℕ) (c : Written) : Type 0 where
   pub range : Ranged n c
   pub factor : rule2 c ≡ true
-  pub period-coprime : rule3 n c ≡ true
+  pub apart : rule3 n c ≡ true
   pub covered : rule4 n reps c ≡ true
 
 pub sound-of : {most n : ℕ} {reps : List ℕ} {c : Written} → Rules most n reps c → Sound n reps c
-sound-of {most} {n} {reps} {c} r = record { range = ranged most n c (ap not (r .range)); factor = r .factor; period-coprime = r .period; covered = r .terms }
+sound-of {most} {n} {reps} {c} r = record { range = ranged most n c (ap not (r .range)); factor = r .factor; apart = r .apart; covered = r .terms }
 
 not-true : (b : Bool) → not b ≡ true → b ≡ false
 not-true true e = sym e
@@ -97,16 +92,16 @@ module _ {n : ℕ} (l : Length n) (reps : List ℕ) (c : Written) (s : Sound n r
   pub h-pos : 0 < c .h
   h-pos = let o : c .h ≢ 0 = in-range .h in omega arith
 
-  pub modulus : Modulus (c .f) (degree (c .f))
-  modulus = record { is = refl; lo = in-range .u-low; hi = in-range .u-high; odd = in-range .f-odd }
-
   pub no-common-here : NoCommon (c .f) (c .h)
   unfolding rule2
   no-common-here = no-common (c .f) (c .h) f-pos (not-true _ (s .factor))
 
-  pub period-here : NoFactor n (period (c .f))
+  pub f-is : Denominator (degree (c .f)) (c .f)
+  f-is = record { pos = in-range .u-low; degree = degree-top (c .f) f-pos; odd = in-range .f-odd }
+
+  pub apart-here : FactorsApart (codeOf l reps) (c .f)
   unfolding rule3
-  period-here = no-factor (period (c .f)) n (omega (arith, l .odd .least)) (s .period-coprime)
+  apart-here = apart-defined (degreeOf l) n (order-divides (l .odd)) (c .f) f-is .0 (s .apart)
 
   pub covered-here : (j : ℕ) → j < c .L → (digits (c .f) (c .h) j ≡ 0) ⊎ T (inSet n reps ((c .b + j * c .z) % n))
   unfolding rule4
@@ -128,11 +123,11 @@ module _ {n : ℕ} (l : Length n) (reps : List ℕ) (c : Written) (s : Sound n r
     u = degree (c .f);
     v = degree (c .h);
     z-coprime = no-factor (c .z) n (omega (arith, l .odd .least)) (in-range .z-coprime);
-    f-is = record { pos = in-range .u-low; degree = degree-top (c .f) f-pos; odd = in-range .f-odd };
+    f-is = f-is;
     h-degree = degree-top (c .h) h-pos;
     v-lt = in-range .v;
     fh = no-common-here;
-    apart = apart (codeOf l reps) (c .f) (period (c .f)) (period-divisor modulus) period-here;
+    apart = apart-here;
     terms = covered-here;
   }
 

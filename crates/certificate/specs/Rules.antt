@@ -16,6 +16,7 @@ use Rattle.document.specs.Answer.{Answer, returned, refused, numberOf, firstOf,
 use Rattle.document.specs.Sheet.{Certificate}
 use Rattle.document.specs.Certificate.{rule4, distance}
 use Rattle.document.specs.Judge.{certificateConditions}
+use Rattle.document.proofs.Theory.{Length}
 use Rattle.sheet.specs.Stage.{Marks}
 
 abbrev pub checkedAs : Checked → Answer
@@ -47,8 +48,7 @@ unfoldable pub checkOf : ℕ → ℕ → List ℕ → Certificate → Answer
 checkOf most n reps c = settle (firstOf (certificateConditions most n reps c)) (distance c ∷ []) [] [] .0
 
 pub record Checkable (n : ℕ) (z : List ℕ) : Type 0 where
-  pub least : 3 ≤ n
-  pub most : n ≤ 65535
+  pub length-of : Length n
   pub long : n ≤ length z
 
 pub record CheckedBy (most n : ℕ) (c : Certificate) (z : List ℕ) (answer : Answer) : Type 0 where

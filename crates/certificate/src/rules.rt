@@ -1,9 +1,12 @@
-// Rules 3 and 4: the period of f, and the terms of h/f walked by a shift register.
+// Rules 3 and 4: no common factors of the f(α^i x), and the terms of h/f walked by a shift register.
 ghost use mathlib.Core.Path.{_≡_};
 ghost use mathlib.Core.Bool.{not};
 ghost use Prim.Native.Nat.{_+_, _*_, _/_, _%_, _<_};
 ghost use Rattle.field.specs.Mask.{_⊕_};
-ghost use Rattle.binary.specs.Factor.{coprime, period, Modulus};
+ghost use Rattle.field.specs.Field.{orderOfTwo};
+ghost use Rattle.binary.specs.Factor.{Modulus};
+ghost use Rattle.document.specs.Apart.{factorsApart};
+ghost use Rattle.document.proofs.Theory.{Length};
 ghost use Rattle.sheet.specs.Stage.{certificateAs};
 ghost use Rattle.certificate.specs.Rules.{Walkable, Ruled};
 use field::order::step;
@@ -36,13 +39,14 @@ pub fn wrong_terms(n: usize, c: Certificate, zeros: &[u8]) -> bool
     false
 }
 
-// Refusal 9.
-pub fn wrong_period(n: usize, f: usize, u: usize) -> bool
-    requires { ⌜ Modulus f u ⌝ }
-    ensures { λ r. ⌜ r ≡ not (coprime (period f) n) ⌝ }
+// Refusal 9: some f(α^i x) and f(α^j x), for different i and j below n, have a common factor. A period coprime to n says that none do,
+// and is looked at first.
+pub fn common_factors(n: usize, f: usize, u: usize) -> bool
+    requires { ⌜ Modulus f u × Length n ⌝ }
+    ensures { λ r. ⌜ r ≡ not (factorsApart (orderOfTwo n) n f) ⌝ }
 {
     if binary::factor::coprime(binary::period::period(f, u), n) {
         return false;
     }
-    true
+    !binary::independence::independent(n, f, u)
 }

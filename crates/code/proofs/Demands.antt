@@ -8,6 +8,7 @@
 --   Demand3, demand-3      decoding
 --   Request01, request-01      2026-01, highest bit first: how words and messages lie in bytes
 --   Request02, request-02      2026-02, the encoder keeps only a remainder
+--   Request03, request-03      2026-03, rule 3 as document 001 needs it
 -- A record for each demand and for each request, a field for each clause, under the clause's words. Each demand is for every list of bytes
 -- that may be a sheet; x is what it states. The words are in specs/Published.antt and specs/Table.antt, under the documents' sentences. That
 -- the field's masks are the smallest primitive ones is mask-least of field/proofs/Smallest.antt; examples, 13 with a buffer that was not 0
@@ -16,12 +17,13 @@ use mathlib.Core.Path.{_≡_, refl}
 use mathlib.Core.Logic.{_≢_, _↔_, _⊎_}
 use mathlib.Core.List.{List, [], _∷_, _++_}
 use Prim.Native.Nat.{ℕ, suc, _+_, _-_, _*_, _/_, _%_, _^_, _≤_, _<_, _∣_}
+use native.Mathlib.Omega.{arith}
 use lib.ListN.{length, getD, drop}
 use Rattle.field.specs.Search.{total}
 use Rattle.field.specs.Mask.{_⊕_, coefficient, remainder}
 use Rattle.field.specs.Field.{orderOfTwo}
 use Rattle.document.specs.Answer.{returned, refused, firstOf}
-use Rattle.document.specs.Layout.{wordWeight, messageWeight, place, maskOf}
+use Rattle.document.specs.Layout.{wordWeight, messageWeight, place, maskOf, bytesOf}
 use Rattle.document.specs.Sheet.{Stated, certificateAt}
 use Rattle.document.specs.Generator.{generatorPoly, differences}
 use Rattle.document.specs.Certificate.{distance}
@@ -32,9 +34,11 @@ use Rattle.document.specs.Short.{stated, judgeOf, encodeOf, readOf, decodeOf, l
 use Rattle.document.proofs.Meaning.{differ-count}
 use Rattle.codeword.proofs.Places.{mask-lt, mask-coefficient}
 use Rattle.code.specs.Published.{IsAccepted, SheetRead, Bytes, Word, Message, InDefiningSet, SetSize, ZeroAt}
-use Rattle.code.specs.Published.{HasDegree, Divides, Published, Rounded, WorkingIs, Systematic, WordDecoded, kept}
+use Rattle.code.specs.Published.{HasDegree, Divides, Rule1, Rule3, Published, Rounded, WorkingIs, Systematic, WordDecoded, kept}
+use Rattle.code.specs.Turns.{FirstThatHolds}
 use Rattle.code.specs.Table.{SpareBit, NoneNear, sheetTurns, encodeTurns, readTurns, decodeTurns, cardTurns}
 use Rattle.code.specs.Table.{NoneNearSaid, NoCodewordSaid, Answered}
+use Rattle.code.specs.Before.{PeriodCoprime, judgeBefore}
 use Rattle.code.proofs.Tried.{judge-answered, encode-answered, read-answered, decode-answered, card-answered}
 use Rattle.code.proofs.Refusing.{read-sheet-bytes, sheet-first, card-writes, text-refused-iff, text-listed-iff}
 use Rattle.code.proofs.Refusing.{thirteen-iff, fourteen-iff}
@@ -43,6 +47,9 @@ use Rattle.code.proofs.Worded.{word-spare-said, message-spare-said, mas
 use Rattle.code.proofs.Worded.{generator-degree-said, multiple-said, zeros-said}
 use Rattle.code.proofs.Worded.{encodes-said, reads-said, refused-said, certificate-published, accepted-published}
 use Rattle.code.proofs.Worded.{rounded-said, distance-said, working-said, record-said, found-said, decoded-said, none-said, apart-said}
+use Rattle.code.proofs.Worded.{length-here, radius-said}
+use Rattle.code.proofs.RuleThree.{period-suffices, nine-alone}
+use Rattle.code.proofs.Rules.{modulus}
 use Rattle.code.proofs.Kept.{kept-said, encoded-said, word-said}
 
 module _ (sheet : List ℕ) where
@@ -185,6 +192,23 @@ module _ (sheet : List ℕ) where
     -- after a word's last place it is 0 exactly for a codeword
     pub word-test : IsAccepted sheet → (word : List ℕ) → CodewordOf x (wordOf x word) ↔ (kept m g (x .n) (wordOf x word) (x .n) ≡ 0)
 
+  -- ---- 2026-03, codes that the period rule turned away. Rule 3 of a certificate (specs/Published.antt, Rule3) is what document 001 needs;
+  -- specs/Before.antt has the rule that it was.
+  pub record Request03 : Type 0 where
+    -- "9 is returned, at its turn in 01's order, exactly when it fails": Rule3 is what stands at 9 in these turns
+    pub nine : (judgeOf sheet .number ≡ 9) ↔ FirstThatHolds (sheetTurns sheet) 9
+    -- a period coprime to n suffices
+    pub period : IsAccepted sheet ⊎ (6 < judgeOf sheet .number) → (i : ℕ) → i < length (x .certificates) → Rule1 (x .n) (certificateAt x i)
+        → PeriodCoprime (x .n) (certificateAt x i) → Rule3 (x .n) (certificateAt x i)
+    -- so a sheet that was accepted is accepted still, with the same record
+    pub accepted-still : judgeBefore sheet .number ≡ 0 → judgeOf sheet ≡ judgeBefore sheet
+    -- and one that was refused, but not with 9, is refused as it was
+    pub refused-still : judgeBefore sheet .number ≢ 9 → judgeOf sheet ≡ judgeBefore sheet
+    -- "Decoding keeps its full radius for every sheet accepted in this wider way": a word within t places of a codeword becomes it
+    pub full-radius : IsAccepted sheet → (word out : List ℕ) → Word x word → length out ≡ (x .n + 7) / 8
+        → (c : ℕ) → CodewordOf x c → changed x word c ≤ t
+        → decodeOf sheet word out ≡ (returned (changed x word c ∷ []), bytesOf wordWeight (x .n) c)
+
 -- ---- of bytes alone: 2026-01, highest bit first: for all bytes; spare bits for a buffer of the right length
 pub record Request01 : Type 0 where
   -- "place i of a word has weight 2^(7 - i mod 8) in byte i div 8"
@@ -266,4 +290,13 @@ request-02 sheet = record {
   after-each-bit = kept-said sheet;
   written = encoded-said sheet;
   word-test = word-said sheet;
+}
+
+pub request-03 : (sheet : List ℕ) → Request03 sheet
+request-03 sheet = record {
+  nine = judge-answered sheet .refused 9 (omega arith);
+  period = λ h i l r. period-suffices (length-here sheet h) (certificateAt (stated sheet) i) (modulus r);
+  accepted-still = λ e. nine-alone sheet (λ n. omega (arith, e, n));
+  refused-still = nine-alone sheet;
+  full-radius = radius-said sheet;
 }

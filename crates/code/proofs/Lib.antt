@@ -9,6 +9,7 @@ pub mod Entries
 pub mod Ready
 pub mod RoundTrip
 pub mod InTurn
+pub mod RuleThree
 pub mod Rules
 pub mod Tried
 pub mod Refusing

@@ -1,7 +1,7 @@
 -- The rules of a certificate as they are computed, and as they are published.
 --
 --   odd-of                   f with constant term 1
---   rule1-said .. rule4-said      each rule, both ways: 2 to 4 for a certificate that meets those before
+--   rule1-said, rule2-said, rule4-said      each rule, both ways, but 3 (RuleThree.antt): 2 and 4 for a certificate that meets rule 1
 --   certificate-said, certificates-said      so the conditions 7 to 10, of one certificate and of a list
 --   published-iff            a certificate meets the rules exactly when it meets the published conditions
 --   rounded-of               and its distance is the published one
@@ -9,31 +9,30 @@ use mathlib.Core.Path.{_≡_, refl, sym, ap, _∙_, subst}
 use mathlib.Core.Logic.{_↔_, _⊎_, Iff·trans, Iff·not}
 use mathlib.Core.Bool.{Bool, not, _||_}
 use mathlib.Core.List.{List, [], _∷_, flatMap}
-use Prim.Native.Nat.{ℕ, _+_, _-_, _*_, _%_, _^_, _≤_, _<_, _∣_}
+use Prim.Native.Nat.{ℕ, _+_, _-_, _*_, _%_, _≤_, _<_}
 use native.Mathlib.Nat.{div-one}
 use native.Mathlib.Omega.{arith}
 use lib.Dec.{eqb}
 use lib.ListN.{getD}
-use Rattle.field.specs.Mask.{_⊕_, coefficient}
-use Rattle.cyclic.proofs.Division.{_∣ₘ_}
-use Rattle.field.specs.Field.{OddLength}
+use Rattle.field.specs.Mask.{coefficient}
 use Rattle.field.proofs.Search.{every-at, every-of}
 use Rattle.field.proofs.Xor.{digit-lt}
-use Rattle.binary.specs.Factor.{coprime, degree, period, terms, Modulus}
+use Rattle.binary.specs.Factor.{degree, terms, Modulus}
 use Rattle.binary.proofs.Degree.{degree-of, degree-low, degree-high}
-use Rattle.binary.proofs.MaskPeriod.{period-pos}
 use Rattle.binary.proofs.Series.{register, terms-at}
-use Rattle.binary.proofs.Meaning.{coprime-iff, common-iff, factor-iff, pow-one, period-divisor, period-least, period-unique, series-product, series-unique}
+use Rattle.binary.proofs.Meaning.{common-iff, factor-iff, series-product, series-unique}
 use Rattle.document.specs.Answer.{firstOf}
 use Rattle.document.specs.Sheet.{Certificate}
 use Rattle.document.specs.Coset.{inSet}
-use Rattle.document.specs.Certificate.{rule1, rule2, rule3, rule4, distance}
+use Rattle.document.specs.Certificate.{rule1, rule2, rule4, distance}
 use Rattle.document.specs.Judge.{certificateConditions}
 use Rattle.document.proofs.Reflect.{Says, not-iff, eqb-iff, or-of}
 use Rattle.document.proofs.Meaning.{rule1-iff, set-iff, distance-least}
-use Rattle.code.specs.Published.{HasDegree, Divides, Rule1, Rule2, Rule3, Rule4, Published, InDefiningSet, Rounded}
+use Rattle.document.proofs.Theory.{Length}
+use Rattle.code.specs.Published.{HasDegree, Rule1, Rule2, Rule4, Published, InDefiningSet, Rounded}
 use Rattle.code.specs.Table.{certificateTurns, lastRefusal}
 use Rattle.code.proofs.InTurn.{Said, stable, said-none, said-append}
+use Rattle.code.proofs.RuleThree.{rule3-said}
 
 not-said : {b : Bool} {P : Type 0} → Says b P → Says (not b) (¬ P)
 not-said {b} w = Iff·trans (not-iff b) (Iff·not w)
@@ -96,7 +95,7 @@ module _ {n : ℕ} {c : Certificate} (r : Rule1 n c) where
   f-pos : 0 < c .f
   f-pos = odd-pos (c .f) f-odd
 
-  modulus : Modulus (c .f) (degree (c .f))
+  pub modulus : Modulus (c .f) (degree (c .f))
   modulus =
       let e : degree (c .f) ≡ r .u = has-degree (r .u-is) in
       record { is = refl; lo = omega (arith, r .u-range .0); hi = omega (arith, r .u-range .1); odd = f-odd }
@@ -109,30 +108,7 @@ module _ {n : ℕ} {c : Certificate} (r : Rule1 n c) where
         λ w q. w (q .0) (q .1) (factor-iff (q .0) (c .h) .0 (q .3)) (factor-iff (q .0) (c .f) .0 (q .2)),
       )
 
-  -- f divides x^q + 1, as a mask and as a number
-  period-there : (q : ℕ) → 0 < q → Divides (c .f) (2 ^ q + 1) → c .f ∣ₘ 2 ^ q ⊕ 1
-  period-there q h w = subst (λ (a : ℕ). c .f ∣ₘ a) (sym (pow-one q h)) (factor-iff (c .f) (2 ^ q + 1) .1 w)
-
-  period-back : (q : ℕ) → 0 < q → c .f ∣ₘ 2 ^ q ⊕ 1 → Divides (c .f) (2 ^ q + 1)
-  period-back q h w = factor-iff (c .f) (2 ^ q + 1) .0 (subst (λ (a : ℕ). c .f ∣ₘ a) (pow-one q h) w)
-
-  rule3-said : Says (rule3 n c) (Rule3 n c)
-  unfolding rule3
-  rule3-said =
-      let w = coprime-iff (period (c .f)) n in (
-        λ e. record {
-          p = period (c .f);
-          above = period-pos (c .f);
-          divides = period-back (period (c .f)) (period-pos (c .f)) (period-divisor modulus);
-          smallest = λ q h w. period-least modulus q h (period-there q h w);
-          coprime = w .0 e;
-        },
-        λ q.
-            let e : q .p ≡ period (c .f) = period-unique modulus (q .p) (q .above) (period-there (q .p) (q .above) (q .divides)) (λ r h w. q .smallest r h (period-back r h w)) in
-            w .1 (subst (λ (p : ℕ). (d : ℕ) → 1 < d → d ∣ p → ¬ (d ∣ n)) e (q .coprime)),
-      )
-
-  module _ (o : OddLength n) (reps : List ℕ) where
+  module _ (o : Length n) (reps : List ℕ) where
     term : ℕ → ℕ
     term j = getD (terms (c .f) (c .h) (c .L)) j 0
 
@@ -140,7 +116,7 @@ module _ {n : ℕ} {c : Certificate} (r : Rule1 n c) where
     place j = (c .b + j * c .z) % n
 
     covered-said : (j : ℕ) → Says (eqb (term j) 0 || inSet n reps (place j)) ((term j ≡ 0) ⊎ InDefiningSet n reps (place j))
-    covered-said j = or-of (eqb-iff (term j) 0) (set-iff o reps (place j))
+    covered-said j = or-of (eqb-iff (term j) 0) (set-iff (o .odd) reps (place j))
 
     -- the series is the one that f times makes h
     rule4-said : Says (rule4 n reps c) (Rule4 n reps c)
@@ -162,7 +138,7 @@ module _ {n : ℕ} {c : Certificate} (r : Rule1 n c) where
     )
 
 -- ---- conditions 7 to 10
-module _ {n : ℕ} (o : OddLength n) (reps : List ℕ) where
+module _ {n : ℕ} (o : Length n) (reps : List ℕ) where
   pub certificate-said : (c : Certificate) → Said lastRefusal (certificateConditions 1023 n reps c) (certificateTurns n reps c)
   unfolding certificateConditions
   certificate-said c = (
@@ -179,7 +155,7 @@ module _ {n : ℕ} (o : OddLength n) (reps : List ℕ) where
         omega arith,
         omega arith,
         refl,
-        not-said (rule3-said r),
+        not-said (rule3-said o c (modulus r)),
         λ n₃. (omega arith, omega arith, refl, not-said (rule4-said r o reps), λ n₄. tt),
       ),
     ),
@@ -202,7 +178,7 @@ module _ {n : ℕ} (o : OddLength n) (reps : List ℕ) where
             record {
               rule1 = r;
               rule2 = stable (rule2-said r) (h .1 .0);
-              rule3 = stable (rule3-said r) (h .1 .1 .0);
+              rule3 = stable (rule3-said o c (modulus r)) (h .1 .1 .0);
               rule4 = stable (rule4-said r o reps) (h .1 .1 .1 .0);
             },
         λ p. (λ h. h (p .rule1), (λ h. h (p .rule2), (λ h. h (p .rule3), (λ h. h (p .rule4), tt)))),

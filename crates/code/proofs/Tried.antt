@@ -13,23 +13,25 @@ use native.Mathlib.Decide.{decLt}
 use native.Mathlib.Omega.{arith}
 use lib.Dec.{eqb}
 use lib.ListN.{length}
-use Rattle.field.specs.Field.{OddLength}
+use borrow.Author.Tests.{lt-ltb}
+use Rattle.field.specs.Field.{OddLength, orderOfTwo}
 use Rattle.codeword.proofs.Places.{mask-lt}
 use Rattle.document.specs.Answer.{firstOf}
 use Rattle.document.specs.Layout.{wordWeight, messageWeight, bytesFor, spare}
 use Rattle.document.specs.Sheet.{Stated}
 use Rattle.document.specs.Coset.{dimension}
 use Rattle.document.specs.Generator.{isCodeword}
-use Rattle.document.specs.Judge.{noMessage, sheetConditions, judgeConditions, dimensionOf, recordOf, judgeEntry}
+use Rattle.document.specs.Judge.{wrongDegree, noMessage, sheetConditions, judgeConditions, dimensionOf, recordOf, judgeEntry}
 use Rattle.document.specs.Entry.{CodewordOf, generatorOf, wordOf, nearestMessage, encodeConditions, encodeEntry, readConditions, readEntry}
 use Rattle.document.specs.Entry.{decodeConditions, decodeEntry}
 use Rattle.document.specs.Card.{cardConditions, cardEntry}
 use Rattle.document.specs.Short.{short, stated, refusalsOf, judgeOf, encodeOf, readOf, decodeOf, cardOf}
 use Rattle.document.proofs.Reflect.{Says, not-iff, eqb-iff, not-eq-iff}
 use Rattle.document.proofs.Meaning.{length-iff, code-length-iff, header-iff, representative-iff, degree-iff, no-message-iff, spare-iff}
+use Rattle.document.proofs.Theory.{Length}
 use Rattle.certificate.proofs.Sheets as Sheets
 use Rattle.code.specs.Turns.{NoneHolds}
-use Rattle.code.specs.Table.{WrongCodeLength, NoMessage, WrongBufferLength, SpareBit, NoneNear, headTurns, sheetTurns, encodeOwn, encodeTurns}
+use Rattle.code.specs.Table.{WrongCodeLength, WrongDegree, NoMessage, WrongBufferLength, SpareBit, NoneNear, headTurns, sheetTurns, encodeOwn, encodeTurns}
 use Rattle.code.specs.Table.{readOwn, readTurns, decodeOwn, decodeTurns, cardTurns, lastRefusal, Answered}
 use Rattle.code.proofs.InTurn.{Said, said-none, said-append, answered, judged-answered}
 use Rattle.code.proofs.Rules.{certificates-said}
@@ -40,6 +42,12 @@ odd-length {n} h = record {
   most = elim (decLt 127 n) [ yes l ↦ absurd (h (inr (inr l))) | no l ↦ omega arith ];
   odd = (let e : n % 2 ≢ 0 = λ q. h (inl q) in omega arith);
 }
+
+pub length-of : {n : ℕ} → ¬ WrongCodeLength n → ¬ WrongDegree n → Length n
+unfolding wrongDegree
+length-of {n} h k =
+    let o : OddLength n = odd-length h in
+    record { odd = o; most = elim (decLt 12 (orderOfTwo n)) [ yes l ↦ absurd (k (degree-iff o .0 (lt-ltb 12 (orderOfTwo n) l))) | no l ↦ omega arith ] }
 
 pub card-said : (out : List ℕ) → Said lastRefusal (cardConditions 1024 out) (cardTurns out)
 unfolding cardConditions
@@ -93,7 +101,7 @@ module _ (sheet : List ℕ) where
   unfolding judgeConditions
   sheet-said =
       said-append lastRefusal (sheetConditions short sheet) (headTurns sheet) _ _ (head-said lastRefusal (omega arith))
-      (λ none. certificates-said (odd-length (none .1 .0)) (x .representatives) (x .certificates))
+      (λ none. certificates-said (length-of (none .1 .0) (none .1 .1 .0)) (x .representatives) (x .certificates))
 
   pub accepted-of : NoneHolds (sheetTurns sheet) → firstOf (refusalsOf sheet) ≡ 0
   accepted-of none = said-none lastRefusal (refusalsOf sheet) (sheetTurns sheet) sheet-said .1 none

@@ -9,7 +9,7 @@
 --   draws-none               a sheet that draws none of 1 to 6
 --   accepted-published, certificate-published      certificates by the published conditions
 --   working-said, record-said      the working certificate, and the record
---   found-said, decoded-said, none-said      decoding
+--   found-said, decoded-said, none-said, radius-said      decoding
 use mathlib.Core.Path.{_≡_, refl, sym, ap, _∙_, subst}
 use mathlib.Core.Logic.{_≢_, _↔_, _⊎_, inl, inr, Iff·trans, Iff·symm}
 use mathlib.Core.Bool.{Bool, true, false}
@@ -37,6 +37,7 @@ use Rattle.document.specs.Entry.{CodewordOf, generatorOf, radiusOf, wordOf, enc
 use Rattle.document.specs.Short.{short, stated, judgeOf, encodeOf, readOf, decodeOf}
 use Rattle.document.proofs.Chain.{first-keep}
 use Rattle.document.proofs.GeneratorIs.{generator-digit, generator-is, generator-degree}
+use Rattle.document.proofs.Theory.{Length}
 use Rattle.document.proofs.Acceptance.{Rules, judge-number, certificate-iff, accepted-rules, accepted-record}
 use Rattle.document.proofs.Meaning.{set-iff, dimension-sum, spare-iff, radius-is, working-iff}
 use Rattle.binary.proofs.Meaning.{factor-iff}
@@ -50,7 +51,7 @@ use Rattle.code.specs.Published.{Systematic, WordDecoded}
 use Rattle.code.specs.Table.{SpareBit, NoneNear, headTurns}
 use Rattle.code.proofs.InTurn.{said-none, said-le, said-quiet}
 use Rattle.code.proofs.Rules.{published-iff, rounded-of}
-use Rattle.code.proofs.Tried.{odd-length, head-said, codeword-said}
+use Rattle.code.proofs.Tried.{length-of, head-said, codeword-said}
 use Rattle.code.proofs.RoundTrip as RoundTrip
 
 -- ---- places in bytes
@@ -145,13 +146,13 @@ module _ (sheet : List ℕ) where
           elim h [ inl z ↦ absurd (omega (arith, k, z)) | inr z ↦ absurd (omega (arith, k, l, e, z)) ]
 
   -- ---- certificates
-  odd : IsAccepted sheet ⊎ (6 < judgeOf sheet .number) → OddLength (x .n)
-  odd h = odd-length (draws-none h .1 .0)
+  pub length-here : IsAccepted sheet ⊎ (6 < judgeOf sheet .number) → Length (x .n)
+  length-here h = length-of (draws-none h .1 .0) (draws-none h .1 .1 .0)
 
   pub certificate-published : IsAccepted sheet ⊎ (6 < judgeOf sheet .number) → (i : ℕ)
       → (firstOf (certificateConditions 1023 (x .n) (x .representatives) (certificateAt x i)) ≡ 0)
       ↔ Published (x .n) (x .representatives) (certificateAt x i)
-  certificate-published h i = published-iff (odd h) (x .representatives) (certificateAt x i)
+  certificate-published h i = published-iff (length-here h) (x .representatives) (certificateAt x i)
 
   rules-published : IsAccepted sheet ⊎ (6 < judgeOf sheet .number) → (i : ℕ)
       → Rules 1023 (x .n) (x .representatives) (certificateAt x i) ↔ Published (x .n) (x .representatives) (certificateAt x i)
@@ -184,7 +185,7 @@ module _ (sheet : List ℕ) where
     pub degree-said : (0 < orderOfTwo (x .n)) × (x .n ∣ 2 ^ orderOfTwo (x .n) - 1)
         × ((q : ℕ) → 0 < q → x .n ∣ 2 ^ q - 1 → orderOfTwo (x .n) ≤ q)
     degree-said =
-        let o : OddLength (x .n) = odd (inl e) in (
+        let o : OddLength (x .n) = length-here (inl e) .odd in (
           order-pos (x .n),
           order-divides o,
           λ q h d. elim (decLt q (orderOfTwo (x .n))) [
@@ -209,8 +210,8 @@ module _ (sheet : List ℕ) where
       where
         marked : (i : ℕ) (b : Bool) → inSet (x .n) (x .representatives) i ≡ b
             → ((bit b ≡ 1) × InDefiningSet (x .n) (x .representatives) i) ⊎ ((bit b ≡ 0) × ¬ InDefiningSet (x .n) (x .representatives) i)
-        marked i true q = inl (refl, set-iff (odd (inl e)) (x .representatives) i .0 q)
-        marked i false q = inr (refl, λ m. true-ne-false (set-iff (odd (inl e)) (x .representatives) i .1 m) q)
+        marked i true q = inl (refl, set-iff (length-here (inl e) .odd) (x .representatives) i .0 q)
+        marked i false q = inr (refl, λ m. true-ne-false (set-iff (length-here (inl e) .odd) (x .representatives) i .1 m) q)
 
     pub working-said : WorkingIs x (workingOf x) (distance (workingCertificate x)) (radiusOf x)
     unfolding workingOf workingCertificate radiusOf
@@ -259,8 +260,8 @@ module _ (sheet : List ℕ) where
     zeros-said word =
         Iff·trans (Iff·symm (codeword-said sheet word))
         (Iff·trans (RoundTrip.codeword-set short sheet (omega arith) e (wordOf x word)) (
-          λ f i w. f i (set-iff (odd (inl e)) (x .representatives) i .1 w),
-          λ f i t. f i (set-iff (odd (inl e)) (x .representatives) i .0 t),
+          λ f i w. f i (set-iff (length-here (inl e) .odd) (x .representatives) i .1 w),
+          λ f i t. f i (set-iff (length-here (inl e) .odd) (x .representatives) i .0 t),
         ))
 
     -- ---- encoding and reading out
@@ -325,6 +326,10 @@ module _ (sheet : List ℕ) where
         λ f. sym (ap (λ (y : Answer × List ℕ). y .0 .number)
             (Decoding.decode-found short (omega arith) sheet e word out form (f .1) (f .2))),
       )
+
+      pub radius-said : (c : ℕ) → CodewordOf x c → changed x word c ≤ radiusOf x
+          → decodeOf sheet word out ≡ (returned (changed x word c ∷ []), bytesOf wordWeight (x .n) c)
+      radius-said c v h = sym (Decoding.decode-found short (omega arith) sheet e word out form v h)
 
       pub none-said : (decodeOf sheet word out .0 .number ≡ 13) ↔ NoneNear x word
       none-said = (

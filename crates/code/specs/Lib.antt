@@ -2,3 +2,4 @@ pub mod Stating
 pub mod Published
 pub mod Turns
 pub mod Table
+pub mod Before

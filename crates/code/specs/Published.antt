@@ -1,4 +1,4 @@
--- What document 01 publishes, with document 02's layout of words, as statements: the words in which proofs/Demands.antt says the three demands
+-- What document 01 publishes, with document 02's layout of words and rule 3, as statements: the words in which proofs/Demands.antt says the three demands
 -- and the requests. The conditions of a certificate
 -- have no search in them; s, k, the generator and the working certificate, which the definitions search for or compute, are named, and
 -- fields of the demands say what they are (degree, dimension, generator, working).
@@ -8,6 +8,7 @@
 --   Places, Bytes, Word, Message   words and messages in bytes
 --   InDefiningSet, SetSize, ZeroAt      D and its size, and a mask's value at α^i
 --   HasDegree, Divides, Coprime    the degree of a mask; d divides a; no number above 1 divides both
+--   PolynomialOver, DividesOver    polynomials over the field, and their divisors
 --   Rule1 .. Rule4, Published      the rules of a certificate
 --   Rounded, WorkingIs             d, and the working certificate with d and t
 --   Systematic, WordDecoded            what encoding and decoding write
@@ -25,6 +26,7 @@ use Rattle.document.specs.Answer.{Answer}
 use Rattle.document.specs.Layout.{wordWeight, messageWeight, place, maskOf}
 use Rattle.document.specs.Sheet.{Certificate, Stated, certificateAt}
 use Rattle.document.specs.Generator.{valueAt}
+use Rattle.document.specs.Apart.{productAt, turned}
 use Rattle.document.specs.Certificate.{distance, radius}
 use Rattle.document.specs.Judge.{dimensionOf}
 use Rattle.document.specs.Entry.{generatorOf, radiusOf, CodewordOf, wordOf, changed}
@@ -115,13 +117,23 @@ pub record Rule1 (n : ℕ) (c : Certificate) : Type 0 where
 abbrev pub Rule2 : Certificate → Type 0
 Rule2 c = (d : ℕ) → 1 < d → Divides d (c .h) → ¬ Divides d (c .f)
 
--- "3. the period of f, the smallest p above 0 for which f divides x^p + 1, is coprime to n"
-pub record Rule3 (n : ℕ) (c : Certificate) : Type 0 where
-  pub p : ℕ
-  pub above : 0 < p
-  pub divides : Divides (c .f) (2 ^ p + 1)
-  pub smallest : (q : ℕ) → 0 < q → Divides (c .f) (2 ^ q + 1) → p ≤ q
-  pub coprime : Coprime p n
+-- a polynomial over the field of 2^s elements, by its coefficients: elements all, and 0 from some exponent on
+pub record PolynomialOver (s : ℕ) (p : ℕ → ℕ) : Type 0 where
+  pub element : (i : ℕ) → p i < 2 ^ s
+  pub end : ℕ
+  pub ends : (i : ℕ) → end ≤ i → p i ≡ 0
+
+-- the polynomial d times some polynomial q is p: coefficient k of a product is the sum of d's i times q's k - i, in the field
+abbrev pub DividesOver : ℕ → (ℕ → ℕ) → (ℕ → ℕ) → Type 0
+DividesOver s d p = (q : ℕ → ℕ) × PolynomialOver s q × ((k : ℕ) → productAt s d q k ≡ p k)
+
+-- 3, as 2026-03 has it: "f(α^i·x) and f(α^j·x) .. have no common factor for different i and j below n": no polynomial of degree 1 or more
+-- over the field, one with a coefficient that is not 0 of some x^k, k above 0, divides both
+abbrev pub Rule3 : ℕ → Certificate → Type 0
+Rule3 n c =
+    let s : ℕ = orderOfTwo n in
+    (i j : ℕ) → i < n → j < n → i ≢ j → (d : ℕ → ℕ) → PolynomialOver s d → (k : ℕ) → 0 < k → d k ≢ 0
+    → DividesOver s d (turned s n (c .f) i) → ¬ DividesOver s d (turned s n (c .f) j)
 
 -- "The sequence a0, a1, .. is the power series h/f over two elements": f times the series a is h.
 -- "4. for each j below L, aj is 0 or (b + j·z) mod n is in D."

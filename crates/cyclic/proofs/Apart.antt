@@ -1,20 +1,23 @@
 -- When f(α^i x) and f(α^j x) are coprime.
 --
+--   sub-mono         c x for x in x^p; const-add: sums of constants
 --   FactorsApart C f        they are, for all different i and j below n: what a certificate asks of its denominator
 --   apart            where f divides x^p + 1, for some p coprime to n; apart-period: such as the period
 --   apart-step       and then also for the powers of α^z, with z coprime to n
-use mathlib.Core.Path.{_≡_, refl, sym, ap, ap₂, _∙_, fun-ext}
-use mathlib.Core.Logic.{_≢_, _⊎_, inl, inr}
-use Prim.Native.Nat.{ℕ, zero, suc, _*_ as _*ℕ_, _%_, _^_, _≤_, _<_}
+--   Turned C f i, apart-iff      f(x) and f(α^i x) are; it is enough that they are for each i from 1 to n - 1
+use mathlib.Core.Path.{_≡_, refl, sym, ap, ap₂, _∙_, subst, fun-ext}
+use mathlib.Core.Logic.{_≢_, _⊎_, inl, inr, _↔_}
+use Prim.Native.Nat.{ℕ, zero, suc, _+_ as _+ℕ_, _-_ as _-ℕ_, _*_ as _*ℕ_, _%_, _^_, _≤_, _<_}
 use native.Mathlib.Nat.{eq-or-lt-of-le, mod-lt}
+use native.Mathlib.Decide.{decLt}
 use native.Mathlib.Omega.{arith}
 use Rattle.algebra.proofs.Ring.{Ring, ring, add-zero, mul-comm, mul-zero, eq-of-add}
-use Rattle.algebra.proofs.Power.{pow, pow-mul, pow-mod, pow-eq}
+use Rattle.algebra.proofs.Power.{pow, pow-z, pow-add, pow-mul, pow-mod, pow-eq}
 use Rattle.algebra.proofs.Field.{Field}
-use Rattle.algebra.proofs.Coprime.{Sub, Coprime}
+use Rattle.algebra.proofs.Coprime.{Sub, Coprime, coprime-sym}
 use Rattle.algebra.proofs.Series.{Ser, const, add-at, one-is, const-mul-at, const-const}
 use Rattle.algebra.proofs.Poly.{IsPoly, Polys, const-poly, le-or-lt, mono, mono-below, mono-above}
-use Rattle.algebra.proofs.Substitute.{sub, sub-at, sub-poly, sub-add, sub-mul, sub-one}
+use Rattle.algebra.proofs.Substitute.{sub, sub-at, sub-poly, sub-add, sub-mul, sub-one, sub-unit, sub-sub, sub-coprime}
 use Rattle.field.specs.Mask.{_⊕_ as _⊻_}
 use Rattle.cyclic.proofs.Lift.{lift, lift-add, lift-mul, lift-one, lift-poly, lift-pow2}
 use Rattle.cyclic.proofs.Division.{_∣ₘ_}
@@ -31,7 +34,7 @@ module _ {A : Type 0} (R : Ring A) where
 
   infixl 65 _⊕_
   infixl 70 _⊗_
-  sub-mono : (c : A) (p : ℕ) → sub R c (mono R p 𝟙) ≡ const R (pow R c p) ⊗ mono R p 𝟙
+  pub sub-mono : (c : A) (p : ℕ) → sub R c (mono R p 𝟙) ≡ const R (pow R c p) ⊗ mono R p 𝟙
   sub-mono c p =
       fun-ext (λ k. sub-at R c (mono R p 𝟙) k ∙ go k (le-or-lt (suc p) k) ∙ sym (const-mul-at R (pow R c p) _ k))
     where
@@ -43,7 +46,7 @@ module _ {A : Type 0} (R : Ring A) where
             | inr l ↦ rw (mono-above R p 𝟙 .at k (omega arith), mul-zero R (pow R c k), mul-zero)
           ]
 
-  const-add : (c d : A) → const R c ⊕ const R d ≡ const R (c + d)
+  pub const-add : (c d : A) → const R c ⊕ const R d ≡ const R (c + d)
   const-add c d = fun-ext (λ k. add-at R _ _ k ∙ go k)
     where
       go : (k : ℕ) → const R c k + const R d k ≡ const R (c + d) k
@@ -123,3 +126,36 @@ module _ {A : Type 0} {R : Ring A} {n : ℕ} (C : Code R n) where
       (λ e. ne
       (pow-apart R α n order z co i j hi hj
       (sym (pow-mul R α i z) ∙ pow-eq R α n order (i *ℕ z) (j *ℕ z) .1 e ∙ pow-mul R α j z))))
+
+  -- ---- by the difference of i and j
+  abbrev pub Turned : ℕ → ℕ → Type 0
+  Turned f i = Coprime (Polys R) (lift R f) (sub R (pow R α i) (lift R f))
+
+  -- α^i x for x
+  shift : (f i d : ℕ) → Turned f d → Coprime (Polys R) (sub R (pow R α i) (lift R f)) (sub R (pow R α (i +ℕ d)) (lift R f))
+  shift f i d t =
+      subst (λ p. Coprime (Polys R) (sub R (pow R α i) (lift R f)) p)
+      (sub-sub R _ _ (lift R f) ∙ ap (λ x. sub R x (lift R f)) (sym (pow-add R α i d))) (sub-coprime R (pow R α i) t)
+
+  pub apart-iff : (f : ℕ) → FactorsApart f ↔ ((i : ℕ) → 0 < i → i < n → Turned f i)
+  apart-iff f = (there, back)
+    where
+      there : FactorsApart f → (i : ℕ) → 0 < i → i < n → Turned f i
+      there a i h l =
+          subst (λ p. Coprime (Polys R) p (sub R (pow R α i) (lift R f)))
+          (ap (λ x. sub R x (lift R f)) (pow-z R α) ∙ sub-unit R (lift R f))
+          (a 0 i (order .pos) l (λ e. omega arith))
+
+      back : ((i : ℕ) → 0 < i → i < n → Turned f i) → FactorsApart f
+      back t i j hi hj ne = go (decLt i j)
+        where
+          go : Dec (i < j) → Coprime (Polys R) (sub R (pow R α i) (lift R f)) (sub R (pow R α j) (lift R f))
+          go (yes l) =
+              let e : i +ℕ (j -ℕ i) ≡ j = omega arith in
+              subst (λ (k : ℕ). Coprime (Polys R) (sub R (pow R α i) (lift R f)) (sub R (pow R α k) (lift R f))) e
+              (shift f i (j -ℕ i) (t (j -ℕ i) (omega arith) (omega arith)))
+          go (no l) =
+              let e : j +ℕ (i -ℕ j) ≡ i = omega arith in
+              coprime-sym (Polys R)
+              (subst (λ (k : ℕ). Coprime (Polys R) (sub R (pow R α j) (lift R f)) (sub R (pow R α k) (lift R f))) e
+              (shift f j (i -ℕ j) (t (i -ℕ j) (omega arith) (omega arith))))

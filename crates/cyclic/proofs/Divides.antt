@@ -2,6 +2,7 @@
 --
 --   in-divides      a factor divides the product of all
 --   divides-mul     a divisor divides each multiple
+--   prod-divides    the product of coprime factors divides what each of them does
 --   divides-const   a constant factor that is not 0 may be left off
 use mathlib.Core.Path.{refl, sym, ap, _∙_, subst}
 use mathlib.Core.Logic.{_≢_}
@@ -9,8 +10,8 @@ use mathlib.Core.List.{List}
 use Prim.Native.Nat.{ℕ}
 use Rattle.algebra.proofs.Ring.{Ring, mul-comm, mul-left-comm, mul-assoc, one-mul}
 use Rattle.algebra.proofs.Field.{Field}
-use Rattle.algebra.proofs.Lists.{In, here, there, prod}
-use Rattle.algebra.proofs.Coprime.{Sub, has-prod, Divides}
+use Rattle.algebra.proofs.Lists.{All, none, more, all-map, In, here, there, Distinct, d-nil, d-cons, prod}
+use Rattle.algebra.proofs.Coprime.{Sub, has-prod, Divides, Coprime, coprime-prod, coprime-both}
 use Rattle.algebra.proofs.Series.{Ser, const, one-is, const-const}
 use Rattle.algebra.proofs.Poly.{Polys, const-poly}
 
@@ -33,6 +34,13 @@ module _ {A : Type 0} {R : Ring A} {P : A → Type 0} (S : Sub R P) where
     by-in = S .has-mul hx (d .by-in);
     eq = mul-left-comm R p x (d .by) ∙ ap (R .mul x) (d .eq);
   }
+
+  pub prod-divides : {B : Type 0} (f : B → A) → ((b : B) → P (f b)) → ((b c : B) → b ≢ c → Coprime S (f b) (f c))
+      → {l : List B} → Distinct l → {t : A} → P t → All (λ b. Divides S (f b) t) l → Divides S (prod R f l) t
+  unfolding prod
+  prod-divides f h co d-nil {t = t} ht none = record { by = t; by-in = ht; eq = one-mul R t }
+  prod-divides f h co (d-cons {b = b} ne d) ht (more w ws) =
+      coprime-both S (coprime-prod S f h (h b) (all-map (co b) ne)) w (prod-divides f h co d ht ws)
 
 module _ {A : Type 0} (R : Ring A) (K : Field R) where
   open Ring (Ser R) using (add as _⊕_, mul as _⊗_)

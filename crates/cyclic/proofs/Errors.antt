@@ -1,11 +1,11 @@
 -- The places of a word as a list, and those in which a mask has a one.
 --
 --   Place n        the numbers below n
---   all n          all of them: all-in, all-distinct; all-sum: a sum over them
+--   all n          all of them: all-length, all-in, all-distinct; all-sum: a sum over them
 --   sumL-add       sums over a list add up
 --   support-count  as many places have a weight that is not 0 as the mask has ones
 --   in-support, off-support      a place is in the support exactly where its weight is not 0
-use mathlib.Core.Path.{_≡_, sym, ap, _∙_, subst}
+use mathlib.Core.Path.{_≡_, refl, sym, ap, _∙_, subst}
 use mathlib.Core.Logic.{_≢_, _↔_}
 use mathlib.Core.List.{List, [], _∷_}
 use lib.ListN.{length}
@@ -67,6 +67,15 @@ module _ (n : ℕ) where
           let l : j .0 < m = in-places m (down h) j x in
           let q : m ≡ j .0 = ap (λ (p : Place n). p .0) e in
           omega arith
+
+  places-length : (m : ℕ) (h : m ≤ n) → length (places m h) ≡ m
+  unfolding places
+  places-length zero h = refl
+  places-length (suc m) h = ap suc (places-length m (down h))
+
+  pub all-length : length all ≡ n
+  unfolding all
+  all-length = places-length n (le-refl n)
 
   pub all-in : (i : Place n) → In i all
   unfolding all

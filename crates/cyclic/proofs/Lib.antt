@@ -1,5 +1,6 @@
 -- Laws of binary cyclic codes, in reading order: masks, the code, its distance, decoding.
 pub mod Division
+pub mod Spread
 pub mod Places
 pub mod Monic
 pub mod Lift
@@ -19,4 +20,5 @@ pub mod Syndromes
 pub mod Certificate
 pub mod Nearest
 pub mod Divides
+pub mod Independent
 pub mod Decode

@@ -134,7 +134,7 @@ refused-first kind sheet h =
 pub record Rules (most n : ℕ) (reps : List ℕ) (c : Certificate) : Type 0 where
   pub range : rule1 most n c ≡ true
   pub factor : rule2 c ≡ true
-  pub period : rule3 n c ≡ true
+  pub apart : rule3 n c ≡ true
   pub terms : rule4 n reps c ≡ true
 
 pub certificate-iff : (most n : ℕ) (reps : List ℕ) (c : Certificate)
@@ -149,11 +149,11 @@ certificate-iff most n reps c = (
       record {
         range = not-false _ (p₁ .0);
         factor = not-false _ (p₂ .0);
-        period = not-false _ (p₃ .0);
+        apart = not-false _ (p₃ .0);
         terms = not-false _ (p₄ .0);
       },
   λ q. quiet-first (passing (ap not (q .range))
-      (passing (ap not (q .factor)) (passing (ap not (q .period)) (passing (ap not (q .terms)) silent)))),
+      (passing (ap not (q .factor)) (passing (ap not (q .apart)) (passing (ap not (q .terms)) silent)))),
 )
 
 -- ---- the sheet and its certificates

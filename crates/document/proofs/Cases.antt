@@ -1,5 +1,6 @@
 -- The twelve cases of document 01, "Known sheets and words", as one table that the definitions hold; the fourteen examples of
--- its table of refusals as a second, 12 and 14 as 2026-01 has them; and listings.
+-- its table of refusals as a second, 12 and 14 as 2026-01 has them; near misses, 2026-03's sheets among them; and listings. They are
+-- said of the entries as they are defined; rule 3 is computed by what Tested.antt shows it to be.
 --
 --   sheetH, sheetE, sheetS, sheetB      the known sheets, in bytes
 --   facts, encodes, decodes             what the definitions say, as numbers
@@ -8,37 +9,39 @@
 --   near-hold                           near misses: each row with the misreadings that it catches
 --   listings-hold                       the listing of sheet H and of three others, byte for byte
 -- Where document 01 abbreviates an example of a refusal, the sheet is H with what is said changed.
-use mathlib.Core.Path.{_≡_, refl}
+use mathlib.Core.Path.{_≡_, refl, ap, _∙_}
 use mathlib.Core.List.{List, [], _∷_, _++_, flatMap}
 use Prim.Native.Nat.{ℕ, zero, suc, _+_}
 use lib.ListN.{length, getD, set, replicate}
 use Rattle.field.specs.Search.{leastFrom, least, upTo, keep, some, every, total}
 use Rattle.field.specs.Mask.{_⊕_, size, productBelow, clmul, divideDown, remainder}
 use Rattle.field.specs.Field.{masks, mask, fieldMultiply, fieldPower, α, orderOfTwo}
-use Rattle.binary.specs.Factor.{coprime, degree, divides, common, period, terms}
+use Rattle.binary.specs.Factor.{coprime, degree, divides, common, terms}
+use Rattle.binary.specs.Independence.{valueModulo, independent}
 use Rattle.document.specs.Answer.{Answer, firstOf, settle}
 use Rattle.document.specs.Layout.{wordWeight, messageWeight, bytesFor, place, maskOf, byteOf, bytesOf, spare}
 use Rattle.document.specs.Sheet.{certificateAt, statedBy, wrongLength, wrongCodeLength, wrongHeader}
 use Rattle.document.specs.Coset.{inCoset, smallest, inSet, definingSet, dimension}
 use Rattle.document.specs.Generator.{addPoly, timesRoot, rootProduct, generatorPoly, maskOfPoly, generator, isCodeword}
 use Rattle.document.specs.Generator.{encodeMask, messageOf, differences, nearest}
-use Rattle.document.specs.Certificate.{steps, ratio, extent, rule1, rule2, rule3, rule4, distance, radius, working}
-use Rattle.document.specs.Judge.{wrongDegree, wrongRepresentative, noMessage, sheetConditions, certificateConditions}
-use Rattle.document.specs.Judge.{judgeConditions, dimensionOf, workingOf, workingCertificate, recordOf, judgeEntry}
+use Rattle.document.specs.Certificate.{steps, ratio, extent, rule1, rule2, rule4, distance, radius, working}
+use Rattle.document.specs.Judge.{wrongDegree, wrongRepresentative, noMessage, sheetConditions}
+use Rattle.document.specs.Judge.{dimensionOf, workingOf, workingCertificate, recordOf, judgeEntry}
 use Rattle.document.specs.Entry.{generatorOf, radiusOf, encodeConditions, encodedWord, encodeEntry, readConditions, readEntry}
 use Rattle.document.specs.Entry.{nearestMessage, decodedWord, decodeConditions, decodeEntry}
 use Rattle.document.specs.Card.{decimalIn, decimal, codeLine, zerosLine, generatorLine, certificateLine, radiusLine}
 use Rattle.document.specs.Card.{refusedLine, acceptedLines, listingFor, listingOf, cardConditions, cardEntry}
-use Rattle.document.specs.Short.{stated, judgeOf, encodeOf, readOf, decodeOf, listing, cardOf}
+use Rattle.document.specs.Short.{stated}
+use Rattle.document.proofs.Tested.{fourWith, conditionsWith, testedOf, Entries, entriesBy, documented, entries-tested}
 
 -- all definitions, for the lemmas that compute
 definitions : ℕ
 unfolding leastFrom least upTo keep some every total _⊕_ size productBelow clmul divideDown remainder masks mask
     fieldMultiply fieldPower α orderOfTwo firstOf settle wordWeight messageWeight bytesFor place maskOf byteOf bytesOf
     spare certificateAt statedBy inCoset smallest inSet definingSet dimension addPoly timesRoot rootProduct generatorPoly
-    maskOfPoly generator isCodeword encodeMask messageOf differences nearest degree coprime divides common period terms
-    steps ratio extent rule1 rule2 rule3 rule4 distance radius working wrongLength wrongCodeLength wrongDegree wrongHeader
-    wrongRepresentative noMessage sheetConditions certificateConditions judgeConditions dimensionOf workingOf
+    maskOfPoly generator isCodeword encodeMask messageOf differences nearest degree coprime divides common terms valueModulo
+    independent steps ratio extent rule1 rule2 rule4 fourWith conditionsWith distance radius working wrongLength wrongCodeLength wrongDegree wrongHeader
+    wrongRepresentative noMessage sheetConditions dimensionOf workingOf
     workingCertificate recordOf judgeEntry generatorOf radiusOf encodeConditions encodedWord encodeEntry readConditions
     readEntry nearestMessage decodedWord decodeConditions decodeEntry flatMap
 definitions = 0
@@ -72,43 +75,44 @@ sheetS L = oneCertificate 17 (1 ∷ []) 13 1 7 3 L
 sheetB : ℕ → List ℕ
 sheetB L = oneCertificate 15 (1 ∷ 3 ∷ []) 1 1 3 1 L
 
--- k, d and t of the record, and the generator where it is asked for; or a refusal's number alone
-facts : List ℕ → List ℕ
-facts sheet = pick (judgeOf sheet)
-  where
-    pick : Answer → List ℕ
-    pick a = elim (a .number) [ zero ↦ getD (a .values) 1 0 ∷ getD (a .values) 4 0 ∷ getD (a .values) 5 0 ∷ [] | suc r ↦ suc r ∷ [] ]
+module _ (E : Entries) where
+  -- k, d and t of the record, and the generator where it is asked for; or a refusal's number alone
+  facts : List ℕ → List ℕ
+  facts sheet = pick (E .judge sheet)
+    where
+      pick : Answer → List ℕ
+      pick a = elim (a .number) [ zero ↦ getD (a .values) 1 0 ∷ getD (a .values) 4 0 ∷ getD (a .values) 5 0 ∷ [] | suc r ↦ suc r ∷ [] ]
 
--- the word of a message, both as masks
-encodes : List ℕ → ℕ → List ℕ
-encodes sheet message =
-    let n : ℕ = stated sheet .n in
-    let k : ℕ = dimensionOf (stated sheet) in
-    let r = encodeOf sheet (bytesOf messageWeight k message) (replicate (bytesFor n) 0) in
-    r .0 .number ∷ maskOf wordWeight n (r .1) ∷ []
+  -- the word of a message, both as masks
+  encodes : List ℕ → ℕ → List ℕ
+  encodes sheet message =
+      let n : ℕ = stated sheet .n in
+      let k : ℕ = dimensionOf (stated sheet) in
+      let r = E .encode sheet (bytesOf messageWeight k message) (replicate (bytesFor n) 0) in
+      r .0 .number ∷ maskOf wordWeight n (r .1) ∷ []
 
--- the answer to a received word: its number, what is returned, and the word written
-decodes : List ℕ → ℕ → List ℕ
-decodes sheet received =
-    let n : ℕ = stated sheet .n in
-    let r = decodeOf sheet (bytesOf wordWeight n received) (replicate (bytesFor n) 0) in
-    r .0 .number ∷ r .0 .values ++ (maskOf wordWeight n (r .1) ∷ [])
+  -- the answer to a received word: its number, what is returned, and the word written
+  decodes : List ℕ → ℕ → List ℕ
+  decodes sheet received =
+      let n : ℕ = stated sheet .n in
+      let r = E .decode sheet (bytesOf wordWeight n received) (replicate (bytesFor n) 0) in
+      r .0 .number ∷ r .0 .values ++ (maskOf wordWeight n (r .1) ∷ [])
 
-said : List (List ℕ)
-said =
-    (generatorOf (stated sheetH) ∷ facts sheetH)
-    ∷ encodes sheetH 1
-    ∷ encodes sheetH 2
-    ∷ decodes sheetH 10
-    ∷ decodes sheetH 1
-    ∷ decodes sheetH 127
-    ∷ (generatorOf (stated (sheetE 3)) ∷ facts (sheetE 3) ++ facts (sheetE 4))
-    ∷ decodes (sheetE 3) 3
-    ∷ decodes (sheetE 3) 28
-    ∷ facts (sheetS 9)
-    ∷ facts (sheetS 10)
-    ∷ (facts (sheetB 4) ++ facts (sheetB 5))
-    ∷ []
+  said : List (List ℕ)
+  said =
+      (generatorOf (stated sheetH) ∷ facts sheetH)
+      ∷ encodes sheetH 1
+      ∷ encodes sheetH 2
+      ∷ decodes sheetH 10
+      ∷ decodes sheetH 1
+      ∷ decodes sheetH 127
+      ∷ (generatorOf (stated (sheetE 3)) ∷ facts (sheetE 3) ++ facts (sheetE 4))
+      ∷ decodes (sheetE 3) 3
+      ∷ decodes (sheetE 3) 28
+      ∷ facts (sheetS 9)
+      ∷ facts (sheetS 10)
+      ∷ (facts (sheetB 4) ++ facts (sheetB 5))
+      ∷ []
 
 expected : List (List ℕ)
 expected =
@@ -126,41 +130,48 @@ expected =
     ∷ (7 ∷ 5 ∷ 2 ∷ 10 ∷ [])
     ∷ []
 
-cases-hold : said ≡ expected
+cases-computed : said (entriesBy testedOf) ≡ expected
 unfolding said expected facts encodes decodes sheetH sheetE sheetS sheetB oneCertificate sheetOf definitions
-cases-hold = refl
+cases-computed = refl
+
+cases-hold : said documented ≡ expected
+cases-hold = ap said entries-tested ∙ cases-computed
 
 -- ---- the refusals
-judged : List ℕ → ℕ
-judged sheet = judgeOf sheet .number
+module _ (E : Entries) where
+  judged : List ℕ → ℕ
+  judged sheet = E .judge sheet .number
 
-decoded : List ℕ → List ℕ → ℕ
-decoded sheet word = decodeOf sheet word (0 ∷ []) .0 .number
+  decoded : List ℕ → List ℕ → ℕ
+  decoded sheet word = E .decode sheet word (0 ∷ []) .0 .number
 
-readOut : List ℕ → List ℕ → ℕ
-readOut sheet word = readOf sheet word (0 ∷ []) .0 .number
+  readOut : List ℕ → List ℕ → ℕ
+  readOut sheet word = E .read sheet word (0 ∷ []) .0 .number
 
-refusals : List ℕ
-refusals =
-    judged (9 ∷ 0 ∷ 7 ∷ 1 ∷ 10 ∷ 0 ∷ 1 ∷ 0 ∷ 11 ∷ [])  -- 9 bytes
-    ∷ judged (oneCertificate 129 (1 ∷ []) 1 1 3 1 2)  -- n = 129
-    ∷ judged (oneCertificate 19 (1 ∷ []) 1 1 3 1 2)  -- n = 19
-    ∷ judged (set sheetH 7 1)  -- byte 7 is 01
-    ∷ judged (oneCertificate 7 (2 ∷ []) 1 1 3 1 2)  -- n = 7, representative 2
-    ∷ judged (oneCertificate 7 (0 ∷ 1 ∷ 3 ∷ []) 1 1 3 1 2)  -- n = 7, representatives 0 1 3
-    ∷ judged (oneCertificate 7 (1 ∷ []) 1 1 3 1 0)  -- L = 0
-    ∷ judged (oneCertificate 7 (1 ∷ []) 1 1 5 3 2)  -- f = 5, h = 3
-    ∷ judged (oneCertificate 21 (1 ∷ []) 1 1 7 1 2)  -- n = 21, f = 7, h = 1
-    ∷ judged (sheetS 10)  -- n = 17, case 11 below
-    ∷ decoded sheetH []  -- empty word
-    ∷ decoded sheetH (0x01 ∷ [])  -- n = 7, word 01
-    ∷ decoded (sheetE 3) (0xC0 ∷ [])  -- case 8 below
-    ∷ readOut sheetH (0x80 ∷ [])  -- n = 7, representative 1, word 80
-    ∷ []
+  refusals : List ℕ
+  refusals =
+      judged (9 ∷ 0 ∷ 7 ∷ 1 ∷ 10 ∷ 0 ∷ 1 ∷ 0 ∷ 11 ∷ [])  -- 9 bytes
+      ∷ judged (oneCertificate 129 (1 ∷ []) 1 1 3 1 2)  -- n = 129
+      ∷ judged (oneCertificate 19 (1 ∷ []) 1 1 3 1 2)  -- n = 19
+      ∷ judged (set sheetH 7 1)  -- byte 7 is 01
+      ∷ judged (oneCertificate 7 (2 ∷ []) 1 1 3 1 2)  -- n = 7, representative 2
+      ∷ judged (oneCertificate 7 (0 ∷ 1 ∷ 3 ∷ []) 1 1 3 1 2)  -- n = 7, representatives 0 1 3
+      ∷ judged (oneCertificate 7 (1 ∷ []) 1 1 3 1 0)  -- L = 0
+      ∷ judged (oneCertificate 7 (1 ∷ []) 1 1 5 3 2)  -- f = 5, h = 3
+      ∷ judged (oneCertificate 21 (1 ∷ []) 1 1 7 1 2)  -- n = 21, f = 7, h = 1
+      ∷ judged (sheetS 10)  -- n = 17, case 11 below
+      ∷ decoded sheetH []  -- empty word
+      ∷ decoded sheetH (0x01 ∷ [])  -- n = 7, word 01
+      ∷ decoded (sheetE 3) (0xC0 ∷ [])  -- case 8 below
+      ∷ readOut sheetH (0x80 ∷ [])  -- n = 7, representative 1, word 80
+      ∷ []
 
-refusals-hold : refusals ≡ 1 ∷ 2 ∷ 3 ∷ 4 ∷ 5 ∷ 6 ∷ 7 ∷ 8 ∷ 9 ∷ 10 ∷ 11 ∷ 12 ∷ 13 ∷ 14 ∷ []
+refusals-computed : refusals (entriesBy testedOf) ≡ 1 ∷ 2 ∷ 3 ∷ 4 ∷ 5 ∷ 6 ∷ 7 ∷ 8 ∷ 9 ∷ 10 ∷ 11 ∷ 12 ∷ 13 ∷ 14 ∷ []
 unfolding refusals judged decoded readOut sheetH sheetE sheetS oneCertificate sheetOf definitions
-refusals-hold = refl
+refusals-computed = refl
+
+refusals-hold : refusals documented ≡ 1 ∷ 2 ∷ 3 ∷ 4 ∷ 5 ∷ 6 ∷ 7 ∷ 8 ∷ 9 ∷ 10 ∷ 11 ∷ 12 ∷ 13 ∷ 14 ∷ []
+refusals-hold = ap refusals entries-tested ∙ refusals-computed
 
 -- ---- near misses: rows that definitions a step away would get wrong. Beside each row stand the misreadings that it catches.
 twoCertificates : ℕ → List ℕ → List ℕ → List ℕ → List ℕ
@@ -173,50 +184,58 @@ certificateOf b z f high h L = b ∷ z ∷ f ∷ high ∷ h ∷ 0 ∷ L ∷ 0 �
 nine : List ℕ
 nine = oneCertificate 9 (0 ∷ []) 0 1 3 1 1
 
-record-of : List ℕ → List ℕ
-record-of sheet = let a : Answer = judgeOf sheet in a .number ∷ a .values
+module _ (E : Entries) where
+  record-of : List ℕ → List ℕ
+  record-of sheet = let a : Answer = E .judge sheet in a .number ∷ a .values
 
-answered : Answer × List ℕ → List ℕ
-answered r = r .0 .number ∷ r .0 .values ++ r .1
+  answered : Answer × List ℕ → List ℕ
+  answered r = r .0 .number ∷ r .0 .values ++ r .1
 
-near : List (List ℕ)
-near =
-    record-of (oneCertificate 7 (1 ∷ []) 0 1 3 1 2)  -- terms looked at from j = 1 on, or the last alone: 1 is in D, 0 is not
-    ∷ record-of (oneCertificate 7 (1 ∷ []) 1 2 3 1 2)  -- z left out, or multiplied by: the places are 1, 3, not 1, 2
-    ∷ record-of (oneCertificate 7 (1 ∷ []) 1 3 3 1 2)  -- no z but 1 admitted: the places 1, 4 are in D
-    ∷ record-of (sheetS 8)  -- d rounded down: it is 4.5, so 5, and t is 2, not 1
-    ∷ record-of (oneCertificate 7 (0 ∷ 1 ∷ []) 0 1 31 8 1)  -- L below v refused, or d taken as 0 or from v - L: it is 1
-    ∷ record-of (oneCertificate 9 (0 ∷ []) 0 1 31 1 1)  -- 2^u - 1 = 15 taken for the period of f, which is 5
-    ∷ record-of (twoCertificates 7 (0 ∷ 1 ∷ []) (certificateOf 0 1 3 0 1 2) (certificateOf 0 1 3 0 1 3))  -- the largest d at work, or the last of the largest t: d is 3 and 4, t is 1 and 1
-    ∷ record-of (twoCertificates 15 (1 ∷ 3 ∷ []) (certificateOf 1 1 3 0 1 2) (certificateOf 1 1 3 0 1 4))  -- the first at work whatever its t
-    ∷ record-of (twoCertificates 7 (1 ∷ []) (certificateOf 1 1 3 0 1 2) (certificateOf 1 1 3 0 1 3))  -- the first alone judged
-    ∷ record-of (twoCertificates 7 (1 ∷ []) (certificateOf 1 1 3 0 1 3) (certificateOf 1 0 3 0 1 2))  -- 7 tried for both before 10 for the first
-    ∷ record-of (oneCertificate 15 (1 ∷ []) 1 3 3 1 1)  -- z not held to be coprime to n
-    ∷ record-of (sheetOf 7 (1 ∷ []) (certificateOf 1 1 3 2 1 2) 19 1)  -- the high byte of f not read: f is 515, not 3
-    ∷ record-of (oneCertificate 7 (1 ∷ []) 1 1 6 1 2)  -- f not held to have constant term 1
-    ∷ record-of (oneCertificate 7 (1 ∷ 1 ∷ []) 1 1 3 1 2)  -- a representative may be that before it
-    ∷ record-of (oneCertificate 7 (3 ∷ 1 ∷ 0 ∷ []) 1 1 3 1 2)  -- a representative may be below that before it; 6 tried before 5
-    ∷ record-of (sheetOf 7 [] (certificateOf 0 1 7 0 2 1) 18 1)  -- R = 0 refused; a term that is 0 held to D
-    ∷ (generatorOf (stated (sheetB 4)) ∷ decodes (sheetB 4) 466)  -- another root of order n for α: with α^14 the generator is 279
-    ∷ answered (encodeOf nine (0x83 ∷ []) (0xAA ∷ 0xBB ∷ []))  -- a byte more for k = 8, or one less for n = 9; messages high bit first, words low bit first; place 8 at the low end
-    ∷ answered (readOf nine (0xE0 ∷ 0x88 ∷ []) (0xAA ∷ []))  -- the first spare bit alone looked at, or the last
-    ∷ answered (encodeOf sheetH (0x12 ∷ []) (0xAA ∷ []))  -- a message's spare bits taken from n on, not from k; the output written beside 12
-    ∷ answered (readOf sheetH (0xD0 ∷ []) (0xAA ∷ []))  -- the message taken from the low places; a bit at the high end taken for spare; every word refused
-    ∷ answered (readOf sheetH (0x50 ∷ []) (0xAA ∷ []))  -- the output written beside 14
-    ∷ answered (decodeOf sheetH (0x50 ∷ []) (0xAB ∷ []))  -- old bits of the output kept, or a spare one of them refused
-    ∷ answered (decodeOf sheetH (0x51 ∷ []) (0xAA ∷ 0xBB ∷ []))  -- an output too long taken; 12 tried before it
-    ∷ answered (decodeOf (sheetE 3) (0xC1 ∷ []) (0xAA ∷ []))  -- 13 tried before 12
-    ∷ answered (decodeOf (sheetE 3) (0xC0 ∷ []) (0xAA ∷ []))  -- the output cleared, or a word written, beside 13
-    ∷ answered (cardOf sheetH (0xAA ∷ []))  -- what fits of the listing written beside 11
-    ∷ []
+  near : List (List ℕ)
+  near =
+      record-of (oneCertificate 7 (1 ∷ []) 0 1 3 1 2)  -- terms looked at from j = 1 on, or the last alone: 1 is in D, 0 is not
+      ∷ record-of (oneCertificate 7 (1 ∷ []) 1 2 3 1 2)  -- z left out, or multiplied by: the places are 1, 3, not 1, 2
+      ∷ record-of (oneCertificate 7 (1 ∷ []) 1 3 3 1 2)  -- no z but 1 admitted: the places 1, 4 are in D
+      ∷ record-of (sheetS 8)  -- d rounded down: it is 4.5, so 5, and t is 2, not 1
+      ∷ record-of (oneCertificate 7 (0 ∷ 1 ∷ []) 0 1 31 8 1)  -- L below v refused, or d taken as 0 or from v - L: it is 1
+      ∷ record-of (oneCertificate 9 (0 ∷ []) 0 1 31 1 1)  -- 2^u - 1 = 15 taken for the period of f, which is 5
+      ∷ record-of (oneCertificate 21 (1 ∷ []) 1 1 19 11 8)  -- the period alone looked at: that of f is 15, and no f(α^i x) have a common factor
+      ∷ record-of (oneCertificate 21 (1 ∷ 3 ∷ 7 ∷ []) 14 5 19 7 15)  -- so with a step other than 1
+      ∷ record-of (oneCertificate 21 (1 ∷ []) 1 1 7 2 8)  -- 9 never drawn, or 10 tried before it: f is 7
+      ∷ record-of (twoCertificates 7 (0 ∷ 1 ∷ []) (certificateOf 0 1 3 0 1 2) (certificateOf 0 1 3 0 1 3))  -- the largest d at work, or the last of the largest t: d is 3 and 4, t is 1 and 1
+      ∷ record-of (twoCertificates 15 (1 ∷ 3 ∷ []) (certificateOf 1 1 3 0 1 2) (certificateOf 1 1 3 0 1 4))  -- the first at work whatever its t
+      ∷ record-of (twoCertificates 7 (1 ∷ []) (certificateOf 1 1 3 0 1 2) (certificateOf 1 1 3 0 1 3))  -- the first alone judged
+      ∷ record-of (twoCertificates 7 (1 ∷ []) (certificateOf 1 1 3 0 1 3) (certificateOf 1 0 3 0 1 2))  -- 7 tried for both before 10 for the first
+      ∷ record-of (oneCertificate 15 (1 ∷ []) 1 3 3 1 1)  -- z not held to be coprime to n
+      ∷ record-of (sheetOf 7 (1 ∷ []) (certificateOf 1 1 3 2 1 2) 19 1)  -- the high byte of f not read: f is 515, not 3
+      ∷ record-of (oneCertificate 7 (1 ∷ []) 1 1 6 1 2)  -- f not held to have constant term 1
+      ∷ record-of (oneCertificate 7 (1 ∷ 1 ∷ []) 1 1 3 1 2)  -- a representative may be that before it
+      ∷ record-of (oneCertificate 7 (3 ∷ 1 ∷ 0 ∷ []) 1 1 3 1 2)  -- a representative may be below that before it; 6 tried before 5
+      ∷ record-of (sheetOf 7 [] (certificateOf 0 1 7 0 2 1) 18 1)  -- R = 0 refused; a term that is 0 held to D
+      ∷ (generatorOf (stated (sheetB 4)) ∷ decodes E (sheetB 4) 466)  -- another root of order n for α: with α^14 the generator is 279
+      ∷ answered (E .encode nine (0x83 ∷ []) (0xAA ∷ 0xBB ∷ []))  -- a byte more for k = 8, or one less for n = 9; messages high bit first, words low bit first; place 8 at the low end
+      ∷ answered (E .read nine (0xE0 ∷ 0x88 ∷ []) (0xAA ∷ []))  -- the first spare bit alone looked at, or the last
+      ∷ answered (E .encode sheetH (0x12 ∷ []) (0xAA ∷ []))  -- a message's spare bits taken from n on, not from k; the output written beside 12
+      ∷ answered (E .read sheetH (0xD0 ∷ []) (0xAA ∷ []))  -- the message taken from the low places; a bit at the high end taken for spare; every word refused
+      ∷ answered (E .read sheetH (0x50 ∷ []) (0xAA ∷ []))  -- the output written beside 14
+      ∷ answered (E .decode sheetH (0x50 ∷ []) (0xAB ∷ []))  -- old bits of the output kept, or a spare one of them refused
+      ∷ answered (E .decode sheetH (0x51 ∷ []) (0xAA ∷ 0xBB ∷ []))  -- an output too long taken; 12 tried before it
+      ∷ answered (E .decode (sheetE 3) (0xC1 ∷ []) (0xAA ∷ []))  -- 13 tried before 12
+      ∷ answered (E .decode (sheetE 3) (0xC0 ∷ []) (0xAA ∷ []))  -- the output cleared, or a word written, beside 13
+      ∷ answered (E .card sheetH (0xAA ∷ []))  -- what fits of the E .text written beside 11
+      ∷ []
 
-near-hold : near
-    ≡ (10 ∷ [])
+nearExpected : List (List ℕ)
+nearExpected =
+    (10 ∷ [])
     ∷ (10 ∷ [])
     ∷ (0 ∷ 7 ∷ 4 ∷ 3 ∷ 0 ∷ 3 ∷ 1 ∷ 2 ∷ [])
     ∷ (0 ∷ 17 ∷ 9 ∷ 8 ∷ 0 ∷ 5 ∷ 2 ∷ 8 ∷ [])
     ∷ (0 ∷ 7 ∷ 3 ∷ 3 ∷ 0 ∷ 1 ∷ 0 ∷ 1 ∷ [])
     ∷ (0 ∷ 9 ∷ 8 ∷ 6 ∷ 0 ∷ 2 ∷ 0 ∷ 1 ∷ [])
+    ∷ (0 ∷ 21 ∷ 15 ∷ 6 ∷ 0 ∷ 3 ∷ 1 ∷ 8 ∷ [])
+    ∷ (0 ∷ 21 ∷ 10 ∷ 6 ∷ 0 ∷ 5 ∷ 2 ∷ 15 ∷ [])
+    ∷ (9 ∷ [])
     ∷ (0 ∷ 7 ∷ 3 ∷ 3 ∷ 0 ∷ 3 ∷ 1 ∷ 2 ∷ [])
     ∷ (0 ∷ 15 ∷ 7 ∷ 4 ∷ 1 ∷ 5 ∷ 2 ∷ 4 ∷ [])
     ∷ (10 ∷ [])
@@ -239,23 +258,30 @@ near-hold : near
     ∷ (13 ∷ 0xAA ∷ [])
     ∷ (11 ∷ 0xAA ∷ [])
     ∷ []
-unfolding near nine record-of answered decodes twoCertificates certificateOf sheetH sheetE sheetS sheetB oneCertificate sheetOf cardEntry cardConditions definitions
-near-hold = refl
+
+near-computed : near (entriesBy testedOf) ≡ nearExpected
+unfolding near nearExpected nine record-of answered decodes twoCertificates certificateOf sheetH sheetE sheetS sheetB oneCertificate sheetOf cardEntry cardConditions definitions
+near-computed = refl
+
+near-hold : near documented ≡ nearExpected
+near-hold = ap near entries-tested ∙ near-computed
 
 -- ---- the listing: that of document 01, and rows beside which stand the misreadings that they catch
-listings : List (List ℕ)
-listings =
-    listing sheetH
-    ∷ listing (twoCertificates 15 (1 ∷ 3 ∷ []) (certificateOf 1 1 3 0 1 2) (certificateOf 1 1 3 0 1 4))  -- the first named as the working one; one line for all certificates; numbers of one digit alone
-    ∷ listing (sheetOf 7 [] (certificateOf 0 1 7 0 2 1) 18 1)  -- a space after `zeros` where D is empty
-    ∷ listing (sheetS 10)  -- another word than `refused`, two spaces, the digits of 10 the other way
-    ∷ []
+module _ (E : Entries) where
+  listings : List (List ℕ)
+  listings =
+      E .text sheetH
+      ∷ E .text (twoCertificates 15 (1 ∷ 3 ∷ []) (certificateOf 1 1 3 0 1 2) (certificateOf 1 1 3 0 1 4))  -- the first named as the working one; one line for all certificates; numbers of one digit alone
+      ∷ E .text (sheetOf 7 [] (certificateOf 0 1 7 0 2 1) 18 1)  -- a space after `zeros` where D is empty
+      ∷ E .text (sheetS 10)  -- another word than `refused`, two spaces, the digits of 10 the other way
+      ∷ []
 
 -- code 7 4 3, zeros 1 2 4, generator 1101, cert 0 terms 2 distance 3, radius 1 from cert 0;
 -- code 15 7 4, zeros 1 2 3 4 6 8 9 12, generator 100010111, cert 0 terms 2 distance 3, cert 1 terms 4 distance 5, radius 2 from cert 1;
 -- code 7 7 3, zeros, generator 1, cert 0 terms 1 distance 1, radius 0 from cert 0; refused 10
-listings-hold : listings
-    ≡ (99 ∷ 111 ∷ 100 ∷ 101 ∷ 32 ∷ 55 ∷ 32 ∷ 52 ∷ 32 ∷ 51 ∷ 10
+listingsExpected : List (List ℕ)
+listingsExpected =
+    (99 ∷ 111 ∷ 100 ∷ 101 ∷ 32 ∷ 55 ∷ 32 ∷ 52 ∷ 32 ∷ 51 ∷ 10
     ∷ 122 ∷ 101 ∷ 114 ∷ 111 ∷ 115 ∷ 32 ∷ 49 ∷ 32 ∷ 50 ∷ 32 ∷ 52 ∷ 10
     ∷ 103 ∷ 101 ∷ 110 ∷ 101 ∷ 114 ∷ 97 ∷ 116 ∷ 111 ∷ 114 ∷ 32 ∷ 49 ∷ 49 ∷ 48 ∷ 49 ∷ 10
     ∷ 99 ∷ 101 ∷ 114 ∷ 116 ∷ 32 ∷ 48 ∷ 32 ∷ 116 ∷ 101 ∷ 114 ∷ 109 ∷ 115 ∷ 32 ∷ 50 ∷ 32 ∷ 100 ∷ 105 ∷ 115 ∷ 116 ∷ 97 ∷ 110 ∷ 99 ∷ 101 ∷ 32 ∷ 51 ∷ 10
@@ -273,5 +299,10 @@ listings-hold : listings
     ∷ 114 ∷ 97 ∷ 100 ∷ 105 ∷ 117 ∷ 115 ∷ 32 ∷ 48 ∷ 32 ∷ 102 ∷ 114 ∷ 111 ∷ 109 ∷ 32 ∷ 99 ∷ 101 ∷ 114 ∷ 116 ∷ 32 ∷ 48 ∷ 10 ∷ [])
     ∷ (114 ∷ 101 ∷ 102 ∷ 117 ∷ 115 ∷ 101 ∷ 100 ∷ 32 ∷ 49 ∷ 48 ∷ 10 ∷ [])
     ∷ []
-unfolding listings listingOf listingFor acceptedLines codeLine zerosLine generatorLine certificateLine radiusLine refusedLine decimal decimalIn twoCertificates certificateOf sheetH sheetS oneCertificate sheetOf definitions
-listings-hold = refl
+
+listings-computed : listings (entriesBy testedOf) ≡ listingsExpected
+unfolding listings listingsExpected listingOf listingFor acceptedLines codeLine zerosLine generatorLine certificateLine radiusLine refusedLine decimal decimalIn twoCertificates certificateOf sheetH sheetS oneCertificate sheetOf definitions
+listings-computed = refl
+
+listings-hold : listings documented ≡ listingsExpected
+listings-hold = ap listings entries-tested ∙ listings-computed

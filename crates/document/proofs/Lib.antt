@@ -1,5 +1,4 @@
 -- Laws of the definitions, and the proved tables.
-pub mod Cases
 pub mod Sane
 pub mod Reflect
 pub mod Cosets
@@ -13,3 +12,7 @@ pub mod Encoding
 pub mod Join
 pub mod Meaning
 pub mod CardIs
+pub mod Polynomials
+pub mod ApartIs
+pub mod Tested
+pub mod Cases

@@ -11,9 +11,11 @@ use lib.Dec.{eqb, leb, ltb}
 use lib.ListN.{getD}
 use Rattle.field.specs.Search.{least, upTo, every}
 use Rattle.field.specs.Mask.{coefficient}
-use Rattle.binary.specs.Factor.{coprime, degree, common, period, terms}
+use Rattle.field.specs.Field.{orderOfTwo}
+use Rattle.binary.specs.Factor.{coprime, degree, common, terms}
 use Rattle.document.specs.Sheet.{Certificate}
 use Rattle.document.specs.Coset.{inSet}
+use Rattle.document.specs.Apart.{factorsApart}
 
 -- "1. b is below n; z is 1 to n - 1 and coprime to n;
 unfoldable pub steps : ℕ → Certificate → Bool
@@ -36,9 +38,9 @@ rule1 most n c = steps n c && ratio c && extent most c
 unfoldable pub rule2 : Certificate → Bool
 rule2 c = not (common (c .f) (c .h))
 
--- "3. the period of f, the smallest p above 0 for which f divides x^p + 1, is coprime to n"
+-- 3, as 2026-03 has it: "f(α^i·x) and f(α^j·x) .. have no common factor for different i and j below n"
 unfoldable pub rule3 : ℕ → Certificate → Bool
-rule3 n c = coprime (period (c .f)) n
+rule3 n c = factorsApart (orderOfTwo n) n (c .f)
 
 -- "4. for each j below L, aj is 0 or (b + j·z) mod n is in D."
 unfoldable pub rule4 : ℕ → List ℕ → Certificate → Bool

@@ -3,6 +3,7 @@ pub mod Layout
 pub mod Sheet
 pub mod Coset
 pub mod Generator
+pub mod Apart
 pub mod Certificate
 pub mod Judge
 pub mod Entry

@@ -2,7 +2,7 @@
 --
 --   F s              the elements: the numbers below 2^s; F-eq: equal when the numbers are
 --   GF d             the ring of the degree that d : Degree s vouches for; GF-add, GF-mul, GF-zero, GF-one: what it does
---   el d a           the element that a number leaves; el-add, el-mul, el-zero, el-one, el-value, el-inj
+--   el d a           the element that a number leaves; el-add, el-mul, el-zero, el-one, el-value, el-of, el-inj
 --   gen d            ω; gen-order: it has order 2^s - 1
 --   log              every nonzero element is a power of ω
 --   isField          every nonzero element has an inverse, its power 2^s - 2
@@ -143,6 +143,9 @@ module _ {s : ℕ} (d : Degree s) where
   pub el-value : {a : ℕ} → a < 2 ^ s → el a .0 ≡ a
   unfolding el
   el-value h = small h
+
+  pub el-of : (a : F s) → el (a .0) ≡ a
+  el-of a = F-eq s (el-value (a .1))
 
   pub el-inj : {a b : ℕ} → a < 2 ^ s → b < 2 ^ s → el a ≡ el b → a ≡ b
   el-inj h l e = sym (el-value h) ∙ ap (λ (x : F s). x .0) e ∙ el-value l

@@ -1,8 +1,10 @@
-// What linkcard does, on the files of data/: a sheet that is refused, one as long as any, and streams that are longer.
+// What linkcard does, on the files of data/: a sheet that is refused, one whose f has a period that shares a factor
+// with n, one as long as any, and streams that are longer.
 use libc::STDOUT_FILENO;
 
 fn main() {
     list(b"sheet_s_with_10_terms");
+    list(b"period_15_of_21");
     list(b"bytes_74");
     list(b"bytes_75_as_stated");
     list(b"bytes_100_of_74_stated");

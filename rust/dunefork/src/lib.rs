@@ -86,7 +86,7 @@ pub enum Error {
     Range = 7,
     /// The masks h and f of a certificate have a common factor.
     CommonFactor = 8,
-    /// The period of a certificate's f is not coprime to n.
+    /// Two of a certificate's f(α^i·x), i below n, have a common factor. Where the period of f is coprime to n none have.
     Period = 9,
     /// A certificate counts on a zero that the code does not have.
     Term = 10,
@@ -146,7 +146,7 @@ impl fmt::Display for Error {
             Error::NoMessage => "the sheet's cosets take all n places, so that no place is left for a message",
             Error::Range => "a field of a certificate is out of range",
             Error::CommonFactor => "the masks h and f of a certificate have a common factor",
-            Error::Period => "the period of a certificate's f has a factor in common with n",
+            Error::Period => "two of a certificate's f(α^i·x), i below n, have a common factor",
             Error::Term => "a certificate counts on a zero that the code does not have",
             Error::BufferLength => "the input or the output buffer has not its exact length",
             Error::SpareBit => "a spare bit of the input's last byte is 1",

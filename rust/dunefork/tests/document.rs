@@ -135,6 +135,19 @@ fn refusals_of_sheets() {
     refused(&sheet_s(10), Error::Term);
 }
 
+/// Request 2026-03: f = 19 has the period 15, which shares a factor with 21.
+#[test]
+fn a_period_that_is_not_coprime_to_n() {
+    let sheet = sheet(21, &[1, 3, 7], [14, 5, 19, 7, 15]);
+    for message in (0..1024).step_by(93) {
+        let (answer, word) = encoded(&sheet, 10, 21, message);
+        assert_eq!((answer, word >> 11), (Ok(()), message));
+        for (i, j) in (0..21).flat_map(|j| (0..j).map(move |i| (i, j))) {
+            assert_eq!(decoded(&sheet, 21, word ^ 1 << i ^ 1 << j), (Ok(2), word));
+        }
+    }
+}
+
 #[test]
 fn refusals_of_words() {
     let h = sheet_h();

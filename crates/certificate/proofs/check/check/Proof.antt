@@ -9,7 +9,7 @@ use Rattle.certificate.proofs.check.check.Statement.{statement}
 use Rattle.certificate.proofs.check.check.Tie as tie
 
 wrong-range-requires : tie.Need-wrong-range-requires
-wrong-range-requires c κs = let p = c .before .pre in (p .least, p .most)
+wrong-range-requires c κs = let p = c .before .pre .length-of .odd in (p .least, p .most)
 
 returns : tie.Need-returns
 returns c = (check-7 _ _ _ _ (sym (c .if1 .taken) ∙ c .before .wrong-range .ensures), omega arith)
@@ -32,24 +32,27 @@ returns-2 c = (
 degree-requires : tie.Need-degree-requires
 degree-requires c κs = search needs
 
-wrong-period-requires : tie.Need-wrong-period-requires
-wrong-period-requires c κs = modulus-of (ranged _ _ _ (sym (c .before .before .before .before .before .before .wrong-range .ensures) ∙ c .before .before .before .before .before .if1 .left)) (c .degree .ensures)
+common-factors-requires : tie.Need-common-factors-requires
+common-factors-requires c κs = (
+  modulus-of (ranged _ _ _ (sym (c .before .before .before .before .before .before .wrong-range .ensures) ∙ c .before .before .before .before .before .if1 .left)) (c .degree .ensures),
+  c .before .before .before .before .before .before .before .before .pre .length-of,
+)
 
 returns-3 : tie.Need-returns-3
 returns-3 c = (
   check-9 _ _ _ _ (sym (c .before .before .before .before .before .before .before .if1 .left) ∙ c .before .before .before .before .before .before .before .before .wrong-range .ensures) (sym (c .before .before .before .before .common .ensures) ∙ c .before .before .before .if2 .left)
-      (sym (c .if3 .taken) ∙ c .before .wrong-period .ensures),
+      (sym (c .if3 .taken) ∙ c .before .common-factors .ensures),
   omega arith,
 )
 
 wrong-terms-requires : tie.Need-wrong-terms-requires
 wrong-terms-requires c κs = let p = c .before .before .before .before .before .before .before .before .before .before .pre in
-    walkable-of (ranged _ _ _ (sym (c .before .before .before .before .before .before .before .before .wrong-range .ensures) ∙ c .before .before .before .before .before .before .before .if1 .left)) (p .most) (omega arith) (p .long)
+    walkable-of (ranged _ _ _ (sym (c .before .before .before .before .before .before .before .before .wrong-range .ensures) ∙ c .before .before .before .before .before .before .before .if1 .left)) (p .length-of .odd .most) (omega arith) (p .long)
 
 returns-4 : tie.Need-returns-4
 returns-4 c = (
   check-10 _ _ _ _ (sym (c .before .before .before .before .before .before .before .before .before .if1 .left) ∙ c .before .before .before .before .before .before .before .before .before .before .wrong-range .ensures) (sym (c .before .before .before .before .before .before .common .ensures) ∙ c .before .before .before .before .before .if2 .left)
-      (sym (c .before .before .if3 .left) ∙ c .before .before .before .wrong-period .ensures) (rw (c .if4 .taken) at (c .before .wrong-terms .ensures)),
+      (sym (c .before .before .if3 .left) ∙ c .before .before .before .common-factors .ensures) (rw (c .if4 .taken) at (c .before .wrong-terms .ensures)),
   omega arith,
 )
 
@@ -67,7 +70,7 @@ distance-requires c κs = let r = ranged _ _ _ (sym (c .before .before .before .
 returns-5 : tie.Need-returns-5
 returns-5 c = (
   check-pass _ _ _ _ (sym (c .before .before .before .before .before .before .before .before .before .before .before .before .if1 .left) ∙ c .before .before .before .before .before .before .before .before .before .before .before .before .before .wrong-range .ensures) (sym (c .before .before .before .before .before .before .before .before .before .common .ensures) ∙ c .before .before .before .before .before .before .before .before .if2 .left)
-      (sym (c .before .before .before .before .before .if3 .left) ∙ c .before .before .before .before .before .before .wrong-period .ensures) (rw (c .before .before .before .if4 .left) at (c .before .before .before .before .wrong-terms .ensures))
+      (sym (c .before .before .before .before .before .if3 .left) ∙ c .before .before .before .before .before .before .common-factors .ensures) (rw (c .before .before .before .if4 .left) at (c .before .before .before .before .wrong-terms .ensures))
       (distance-is _ (c .before .before .before .before .before .before .before .degree .ensures) (c .before .degree2 .ensures) (c .distance .ensures .0)),
   omega (arith, c .distance .ensures .1, L-within _ _ _ (sym (c .before .before .before .before .before .before .before .before .before .before .before .before .before .wrong-range .ensures) ∙ c .before .before .before .before .before .before .before .before .before .before .before .before .if1 .left)),
 )
@@ -83,7 +86,7 @@ check-spec =
     common-requires
     returns-2
     degree-requires
-    wrong-period-requires
+    common-factors-requires
     returns-3
     wrong-terms-requires
     returns-4

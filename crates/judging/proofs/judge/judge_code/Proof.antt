@@ -33,7 +33,7 @@ weigh-requires : tie.Need-weigh-requires
 weigh-requires c κs = let p = c .before .before .before .before .before .before .before .before .before .before .before .before .pre .0 in let m = c .before .before .before .before .before .before .before .wrong-representative .ensures .marks (c .before .before .before .before .if1 .left) in
     record {
       most-le = p .most-le;
-      checkable = record { least = p .length-of .odd .least; most = p .length-of .odd .most; long = m .long };
+      checkable = record { length-of = p .length-of; long = m .long };
       one = p .one;
       few = p .few;
       long = p .long;

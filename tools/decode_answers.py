@@ -99,7 +99,8 @@ class Code:
 # ---- certificates that prove much
 @lru_cache(None)
 def denominators(n, u):
-    # f whose period is coprime to n; entry_answers.py has sheets with others. Periods that are powers of 2 are left out where there are others: f is then a power of x + 1
+    # f whose period is coprime to n; entry_answers.py has sheets with others. Periods that are powers of 2 are left out where there are
+    # others: f is then a power of x + 1
     found = [f for f in range(2 ** u + 1, 2 ** (u + 1), 2) if gcd(period_of(f), n) == 1]
     return [f for f in found if period_of(f).bit_count() > 1] or found
 
@@ -256,6 +257,9 @@ def whole_sheets(draw):
                         yield sheet(n, representatives, certificate(*best, longest(n, zeros, *best)))
     for n, u in ((13, 1), (13, 2), (13, 5), (15, 3), (15, 6)):
         yield sheet(n, *drawn_code(draw, n, u)[1:])
+    # f with a period that is not coprime to n
+    yield sheet(9, [0, 1], certificate(0, 4, 19, 5, 15))
+    yield sheet(15, [0, 3, 5], certificate(5, 7, 67, 19, 17))
     yield sheet(15, [1], certificate(2, 2, 3, 1, 2))
     yield sheet(15, [1, 3, 5], certificate(2, 2, 3, 1, 2), certificate(1, 1, 3, 1, 6))
     yield sheet(15, [0, 1, 3], certificate(4, 8, 3, 1, 2), certificate(0, 1, 3, 1, 5))

@@ -175,12 +175,13 @@ def known():
     yield sheet(127, [0] + bch, certificate(0, 1, 3, 1, 23), certificate(126, 126, 3, 1, 1))
 
 
-# Sheets of request 2026-03, found by search: f has a period that shares a factor with n, and no f(α^i x) and f(α^j x) have a common
-# factor. The length, the representatives, b, z, f, h, L, and d; but for the short ones d is above what a run of zeros proves.
+# Sheets of request 2026-03, found by search: f has a period that shares a factor with n, and no two f(α^i x) have a common factor.
+# The length, the representatives, b, z, f, h, L, and d, which for most is above what zeros in a row prove.
 WIDER = (
+    (3, (1,), 1, 1, 19, 5, 8, 3), (5, (1,), 1, 3, 285, 23, 33, 5), (7, (1, 3), 1, 2, 67, 15, 38, 7),
     (21, (1,), 1, 1, 19, 11, 8, 3), (21, (1, 3, 7), 14, 5, 19, 7, 15, 5), (21, (3, 5, 7, 9), 7, 17, 19, 5, 24, 7),
     (21, (1, 3, 7, 9), 6, 17, 25, 1, 23, 7), (9, (0, 1), 0, 4, 19, 5, 15, 5), (9, (0, 1), 8, 1, 25, 15, 16, 5),
-    (15, (0, 3, 5), 5, 7, 67, 19, 17, 4), (33, (1, 3), 6, 31, 19, 3, 22, 7), (33, (1, 3), 1, 31, 25, 11, 24, 7),
+    (15, (0, 3, 5), 5, 7, 67, 19, 17, 4), (33, (1, 3), 6, 31, 19, 3, 22, 7), (33, (1, 3), 30, 1, 19, 3, 22, 7), (33, (1, 3), 1, 31, 25, 11, 24, 7),
     (35, (3, 7, 15), 27, 31, 67, 15, 22, 5), (39, (3, 7), 34, 23, 19, 5, 24, 7), (39, (1, 3), 6, 19, 25, 1, 23, 7),
     (45, (5, 7, 9, 15, 21), 0, 14, 285, 70, 56, 8), (51, (3, 9, 17, 19), 39, 38, 19, 3, 22, 7),
     (51, (3, 5, 9, 17), 34, 37, 25, 11, 24, 7), (63, (3, 5, 7, 15, 27), 7, 17, 19, 5, 24, 7),
@@ -199,8 +200,8 @@ def wider():
         yield sheet(n, representatives, certificate(b, z, f, h, terms + 1))
         yield sheet(n, representatives, certificate(b, z, f, h, terms), certificate(b, z, 7, 1, 1))
         yield sheet(n, representatives, certificate(b, z, f, h, terms), certificate(min(representatives), 1, 3, 1, 1))
-    # 85 has no such f
-    for f in (19, 25, 67, 285):
+    # 85 has no such f: these share a factor with it, and are refused
+    for f in (19, 25, 31, 285):
         yield sheet(85, [1], certificate(1, 1, f, 1, 1))
 
 

@@ -1,4 +1,4 @@
-# Misreadings of document 01 and of request 2026-01 of document 02, for tools/misreadings: each is a name and what is replaced in
+# Misreadings of document 01 and of requests 2026-01 and 2026-03 of document 02, for tools/misreadings: each is a name and what is replaced in
 # tools/second_reading.py, a line or a part of one, by what. What is replaced must stand there exactly once.
 MISREADINGS = []
 
@@ -106,7 +106,6 @@ misread('9: period no divisor of n', SHARED, 'return period(c.f) > 1 and n % per
 misread('9: period no multiple of n', SHARED, 'return period(c.f) % n == 0')
 misread('9: i and j equal not left out', 'for j in range(n) if i != j', 'for j in range(n)')
 misread('9: i and i + 1 alone compared', 'for j in range(n) if i != j', 'for j in (i + 1,)')
-misread('9: i and j below n - 1 over 2', 'for i in range(n) for j in range(n) if i != j', 'for i in range(n // 2) for j in range(i)')
 ASKED = 'any(a[j] == 1 and (c.b + j * c.z) % n not in members for j in range(c.terms))'
 misread('10: rule 4 not asked', 'return ' + ASKED, 'return False')
 misread('10: terms from j = 1', ASKED, ASKED.replace('range(c.terms)', 'range(1, c.terms)'))

@@ -1,5 +1,5 @@
-# A second reading of document 01, with requests 2026-01 and 2026-03 of document 02, made from their text alone: judge, card, encode, read and decode
-# as searches and sums, with none of the product's code and none of entry_answers.py's. Polynomials over two elements are masks, as in the
+# A second reading of document 01, with requests 2026-01 and 2026-03 of document 02, made from their text alone: judge, card, encode, read
+# and decode as searches and sums (rule 3 by Euclid's algorithm, in field_factors.py; `period` is for misreadings alone), with none of the product's code and none of entry_answers.py's. Polynomials over two elements are masks, as in the
 # document. What the document leaves open (card's buffer of 1,024 bytes and its 11, the last newline, the 0 that encode and read return)
 # is as docs/PROMISES.md says.
 #

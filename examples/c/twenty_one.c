@@ -38,7 +38,7 @@ int main(void) {
     if (dunefork_read(sheet, sizeof sheet, decoded, sizeof decoded, back, sizeof back) < 0 || memcmp(back, message, sizeof back)) return 1;
     printf("message %02x %02x\n", back[0], back[1]);
 
-    /* f = 7 still is no good for this length: f(a^7 x) is f(x). */
+    /* f = 7 still is no good for this length: f(x) and f(a^7 x) have a common factor. */
     uint8_t other[sizeof sheet];
     memcpy(other, sheet, sizeof sheet);
     other[15] = 7;

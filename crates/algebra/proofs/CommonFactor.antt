@@ -4,7 +4,7 @@
 --   PolyGcd R p q               a common divisor that is a combination of both
 --   poly-gcd                     there is one: Euclid's algorithm
 --   coprime-none            coprime polynomials have no common factor
---   coprime-or              two polynomials, not both 0, are coprime or have a common factor
+--   coprime-or              two polynomials, the first not 0, are coprime or have a common factor
 --   no-common-iff           so `coprime` (Bezout) and `no common factor` are the same
 use mathlib.Core.Path.{_≡_, sym, ap, ap₂, _∙_, subst}
 use mathlib.Core.Logic.{_≢_, _⊎_, inl, inr, _↔_}
@@ -109,7 +109,7 @@ module _ {A : Type 0} (R : Ring A) where
             let s : f ⊗ (u ⊗ x ⊕ v ⊗ y) ≡ u ⊗ (f ⊗ x) ⊕ v ⊗ (f ⊗ y) = simp ring in
             s ∙ ap₂ (λ a b. u ⊗ a ⊕ v ⊗ b) a b
 
-    -- a poly-gcd of degree 0 is a unit, and p is not 0
+    -- a gcd of degree 0 is a unit, and p is not 0
     pub coprime-or : {p q : ℕ → A} → IsPoly R p → IsPoly R q → p ≢ 0ₛ → Coprime (Polys R) p q ⊎ CommonFactor p q
     coprime-or {p} {q} hp hq ne = go (degree R K (z .g-in .size) (z .g) (z .g-in .below))
       where

@@ -25,7 +25,7 @@ use Rattle.field.proofs.Search.{every-at, every-of, true-ne-false}
 use Rattle.field.specs.Mask.{_⊕_, coefficient, clmul, remainder}
 use Rattle.field.proofs.Xor.{digit, digit-lt, ⊕-comm, ⊕-split}
 use Rattle.field.proofs.MaskProduct.{clmul-pow, clmul-zero-r, clmul-one-r, clmul-dbl-r, clmul-add-r}
-use Rattle.field.proofs.Remainder.{remainder-lt, remainder-zero, remainder-small, remainder-add, remainder-mul-l, remainder-mul-r}
+use Rattle.field.proofs.Remainder.{remainder-zero, remainder-small, remainder-add, remainder-mul-l, remainder-mul-r}
 use Rattle.cyclic.proofs.Division.{divides-iff}
 use Rattle.cyclic.proofs.Spread.{spread, spread-zero, spread-step}
 use Rattle.cyclic.proofs.Period.{Denominator}
@@ -35,7 +35,7 @@ use Rattle.binary.specs.Independence.{valueModulo, independent, rowAt, P
 use Rattle.binary.proofs.Degree.{degree-top, degree-le}
 use Rattle.binary.proofs.MaskPeriod.{modulus-top, modulus-two, modulus-cap, times-lt}
 use Rattle.binary.proofs.Feeding.{raised-sum}
-use Rattle.binary.proofs.Elimination.{combination, combination-ext, Free, taken, free-none, free-zero, free-ext, free-struck}
+use Rattle.binary.proofs.Elimination.{rowSum, row-sum-ext, Free, struck, free-none, free-zero, free-ext, free-struck}
 use Rattle.binary.proofs.RowsHeld.{row-first, row-kept, row-put, rows-lt}
 
 pub denominator : {f u : ℕ} → Modulus f u → Denominator u f
@@ -43,7 +43,7 @@ denominator m = record { pos = m .lo; degree = modulus-top m; odd = m .odd }
 
 -- ---- what `independent` says
 module _ (n : ℕ) {u f : ℕ} (d : Denominator u f) where
-  -- a remainder may be taken before the shift
+  -- a remainder may be struck before the shift
   shifted : (a : ℕ) → remainder u f (remainder u f a * 2 ^ n) ≡ remainder u f (a * 2 ^ n)
   shifted a =
       ap (remainder u f) (sym (clmul-pow (remainder u f a) n)) ∙ remainder-mul-l u f (d .pos) (d .degree) a (2 ^ n)
@@ -95,11 +95,12 @@ module _ (n : ℕ) {u f : ℕ} (d : Denominator u f) where
               flip true q = absurd (e (eqb-true (value (suc P)) 0 q))
               flip false q = refl
 
--- ---- what the loops keep: the rows below i and the next power; and what is left of the rows after i turns
+-- ---- what the loops keep: the rows below i and the last of them; and what is left of the rows after i turns
 pub record HeldUpTo (u f n i w a : ℕ) : Type 0 where
   pub rows : PowersHeld u f n i w
   pub below : w < 2 ^ (8 * i)
-  pub next : a ≡ remainder u f (2 ^ (n * i))
+  pub some : 0 < i
+  pub last : a ≡ remainder u f (2 ^ (n * (i - 1)))
 
 pub record FreeFrom (u f n i w : ℕ) : Type 0 where
   pub within : i ≤ u
@@ -202,51 +203,65 @@ module _ {f u : ℕ} (m : Modulus f u) where
   power-end n i x z e = e ∙ ap (λ (k : ℕ). remainder u f (2 ^ (n / 2 ^ k))) z ∙ ap (λ (k : ℕ). remainder u f (2 ^ k)) (div-one n)
 
   -- ---- the rows
-  pub held-start : (n : ℕ) → HeldUpTo u f n 0 0 1
+  pub held-start : (n : ℕ) → HeldUpTo u f n 1 1 1
+  unfolding rem rowAt
+  held-start n =
+      let one : 1 ≡ rem (2 ^ (n * 0)) = sym (ap (λ (k : ℕ). rem (2 ^ k)) (mul-zero n) ∙ small 1 (omega (arith, modulus-two m))) in
+      record {
+        rows = record { is = λ i l. let z : i ≡ 0 = omega arith in ap (rowAt 1) z ∙ one ∙ ap (λ (k : ℕ). rem (2 ^ (n * k))) (sym z) };
+        below = omega arith;
+        some = omega arith;
+        last = one;
+      }
+
+  -- the next power
+  held-next : {n i w a : ℕ} (y b : ℕ) → HeldUpTo u f n i w a → y ≡ remainder u f (2 ^ n) → b ≡ remainder u f (clmul a y)
+      → b ≡ remainder u f (2 ^ (n * i))
   unfolding rem
-  held-start n = record {
-    rows = record { is = λ i l. absurd (omega arith) };
-    below = omega arith;
-    next = sym (ap (λ (k : ℕ). rem (2 ^ k)) (mul-zero n) ∙ small 1 (omega (arith, modulus-two m)));
-  }
+  held-next {n} {i} y b h ey eb =
+      let k : ℕ = i - 1 in
+      let s : i ≡ k + 1 = omega (arith, h .some) in
+      let e : n * k + n ≡ n * (k + 1) = omega arith in
+      eb ∙ ap₂ (λ (v z : ℕ). rem (clmul v z)) (h .last) ey ∙ left (2 ^ (n * k)) (rem (2 ^ n)) ∙ right (2 ^ (n * k)) (2 ^ n)
+      ∙ ap rem (clmul-pow (2 ^ (n * k)) n ∙ sym (pow-add 2 (n * k) n)) ∙ ap (λ (j : ℕ). rem (2 ^ j)) e
+      ∙ ap (λ (j : ℕ). rem (2 ^ (n * j))) (sym s)
 
-  held-lt : {n i w a : ℕ} → HeldUpTo u f n i w a → a < 256
-  held-lt {n} {i} h = omega (arith, times-lt m (2 ^ (n * i)) (h .next), modulus-cap m)
+  next-lt : {b : ℕ} (a : ℕ) → b ≡ remainder u f a → b < 256
+  next-lt a e = omega (arith, times-lt m a e, modulus-cap m)
 
-  pub held-room : {n i w a : ℕ} → HeldUpTo u f n i w a → i < u → w + a * 2 ^ (8 * i) < 2 ^ 64
-  held-room {n} {i} {w} {a} h l =
+  pub held-room : {n i w a b : ℕ} → HeldUpTo u f n i w a → i < u → b < 2 ^ u → w + b * 2 ^ (8 * i) < 2 ^ 64
+  held-room {n} {i} {w} {a} {b} h l e =
       let k : 8 * suc i ≤ 64 = omega (arith, m .hi) in
       let p : 2 ^ (8 * suc i) ≤ 2 ^ 64 = pow-mono k in
-      omega (arith, rows-lt i w a (h .below) (held-lt h))
+      omega (arith, rows-lt i w b (h .below) (omega (arith, e, modulus-cap m)))
 
   -- no bit of the row is lost
-  pub held-shift : {n i w a : ℕ} → HeldUpTo u f n i w a → i < u → a * 2 ^ (8 * i) % 2 ^ 64 ≡ a * 2 ^ (8 * i)
-  held-shift h l = mod-eq-of-lt (omega (arith, held-room h l))
+  pub held-shift : {n i w a b : ℕ} → HeldUpTo u f n i w a → i < u → b < 2 ^ u → b * 2 ^ (8 * i) % 2 ^ 64 ≡ b * 2 ^ (8 * i)
+  held-shift h l e = mod-eq-of-lt (omega (arith, held-room h l e))
 
   pub held-more : (n i w a y b : ℕ) → HeldUpTo u f n i w a → y ≡ remainder u f (2 ^ n) → b ≡ remainder u f (clmul a y)
-      → HeldUpTo u f n (i + 1) (w + a * 2 ^ (8 * i)) b
+      → HeldUpTo u f n (i + 1) (w + b * 2 ^ (8 * i)) b
   unfolding rem
   held-more n i w a y b h ey eb = record {
     rows = record { is = λ j l. go j l (ℕ-discrete j i) };
-    below = subst (λ (k : ℕ). w + a * 2 ^ (8 * i) < 2 ^ (8 * k)) (sym (add-one i)) (rows-lt i w a (h .below) (held-lt h));
-    next =
-        let e : n * i + n ≡ n * (i + 1) = omega arith in
-        eb ∙ ap₂ (λ (v z : ℕ). rem (clmul v z)) (h .next) ey ∙ left (2 ^ (n * i)) (rem (2 ^ n)) ∙ right (2 ^ (n * i)) (2 ^ n)
-        ∙ ap rem (clmul-pow (2 ^ (n * i)) n ∙ sym (pow-add 2 (n * i) n)) ∙ ap (λ (k : ℕ). rem (2 ^ k)) e;
+    below = subst (λ (k : ℕ). w + b * 2 ^ (8 * i) < 2 ^ (8 * k)) (sym (add-one i)) (rows-lt i w b (h .below) (next-lt (clmul a y) eb));
+    some = omega arith;
+    last = let z : i + 1 - 1 ≡ i = omega arith in held-next y b h ey eb ∙ ap (λ (k : ℕ). rem (2 ^ (n * k))) (sym z);
   }
     where
-      go : (j : ℕ) → j < i + 1 → Dec (j ≡ i) → rowAt (w + a * 2 ^ (8 * i)) j ≡ rem (2 ^ (n * j))
+      go : (j : ℕ) → j < i + 1 → Dec (j ≡ i) → rowAt (w + b * 2 ^ (8 * i)) j ≡ rem (2 ^ (n * j))
       go j l (yes e) =
-          ap (rowAt (w + a * 2 ^ (8 * i))) e ∙ row-put i w a (h .below) (held-lt h) ∙ h .next ∙ ap (λ (k : ℕ). rem (2 ^ (n * k))) (sym e)
-      go j l (no e) = row-kept i w a j (omega arith) ∙ h .rows .is j (omega arith)
+          ap (rowAt (w + b * 2 ^ (8 * i))) e ∙ row-put i w b (h .below) (next-lt (clmul a y) eb) ∙ held-next y b h ey eb
+          ∙ ap (λ (k : ℕ). rem (2 ^ (n * k))) (sym e)
+      go j l (no e) = row-kept i w b j (omega arith) ∙ h .rows .is j (omega arith)
 
   pub held-end : {n i w a : ℕ} → HeldUpTo u f n i w a → i ≡ u → PowersHeld u f n u w
   held-end {n} {i} {w} h e = subst (λ (k : ℕ). PowersHeld u f n k w) e (h .rows)
 
   -- ---- combinations of the powers
   combined : (n k i P : ℕ) → P < 2 ^ k
-      → combination (λ j. remainder u f (2 ^ (n * (i + j)))) k P ≡ remainder u f (spread n P * 2 ^ (n * i))
-  unfolding combination rem
+      → rowSum (λ j. remainder u f (2 ^ (n * (i + j)))) k P ≡ remainder u f (spread n P * 2 ^ (n * i))
+  unfolding rowSum rem
   combined n zero i P h =
       let z : P ≡ 0 = omega arith in
       sym (ap (λ (x : ℕ). rem (x * 2 ^ (n * i))) (ap (spread n) z ∙ spread-zero n) ∙ ap rem (zero-mul (2 ^ (n * i))) ∙ zero-is)
@@ -256,7 +271,7 @@ module _ {f u : ℕ} (m : Modulus f u) where
       let S : ℕ = spread n (P / 2) in
       ap₂ _⊕_
       (ap (λ (j : ℕ). (P % 2) * rem (2 ^ (n * j))) z ∙ one (2 ^ (n * i)) (P % 2) (digit-lt P))
-      (combination-ext (λ j. rem (2 ^ (n * (i + suc j)))) (λ j. rem (2 ^ (n * (suc i + j)))) k
+      (row-sum-ext (λ j. rem (2 ^ (n * (i + suc j)))) (λ j. rem (2 ^ (n * (suc i + j)))) k
       (λ j l. let e : i + suc j ≡ suc i + j = omega arith in ap (λ (x : ℕ). rem (2 ^ (n * x))) e) (P / 2)
       ∙ combined n k (suc i) (P / 2) (omega arith)
       ∙ ap rem (ap (λ (x : ℕ). S * 2 ^ x) (sym more) ∙ ap (λ (x : ℕ). S * x) (pow-add 2 n (n * i)) ∙ sym (mul-assoc S (2 ^ n) (2 ^ (n * i)))))
@@ -275,9 +290,9 @@ module _ {f u : ℕ} (m : Modulus f u) where
     λ free P l d. free P l (is P l ∙ divides-iff u f (modulus-top m) _ .0 d),
   )
     where
-      is : (P : ℕ) → P < 2 ^ u → combination (rowAt w) u P ≡ rem (spread n P)
+      is : (P : ℕ) → P < 2 ^ u → rowSum (rowAt w) u P ≡ rem (spread n P)
       is P l =
-          combination-ext (rowAt w) (λ j. rem (2 ^ (n * (0 + j)))) u
+          row-sum-ext (rowAt w) (λ j. rem (2 ^ (n * (0 + j)))) u
           (λ j k. let e : 0 + j ≡ j = omega arith in h .is j k ∙ ap (λ (x : ℕ). rem (2 ^ (n * x))) (sym e)) P
           ∙ combined n u 0 P l
           ∙ ap (λ (x : ℕ). rem (spread n P * 2 ^ x)) (mul-zero n) ∙ ap rem (mul-one (spread n P))
@@ -297,7 +312,7 @@ module _ {f u : ℕ} (m : Modulus f u) where
       let p = pivot (w % 256) t ne (omega arith) e in
       let k : ℕ = u - (i + 1) in
       let sk : u - i ≡ suc k = omega arith in
-      let rows : (j : ℕ) → j < k → rowAt r j ≡ taken t (rowAt w 0) (λ j. rowAt w (suc j)) j =
+      let rows : (j : ℕ) → j < k → rowAt r j ≡ struck t (rowAt w 0) (λ j. rowAt w (suc j)) j =
       λ j q. st .is j (omega (arith, m .hi)) in
       record {
         within = omega arith;
@@ -305,8 +320,8 @@ module _ {f u : ℕ} (m : Modulus f u) where
             Iff·trans (s .free)
             (subst (λ (x : ℕ). Free (rowAt w) x ↔ Free (rowAt r) k) (sym sk)
             (Iff·trans (free-struck t (rowAt w) k (ap (coefficient t) (row-first w) ∙ p .1)) (
-              free-ext (taken t (rowAt w 0) (λ j. rowAt w (suc j))) (rowAt r) k (λ j q. sym (rows j q)),
-              free-ext (rowAt r) (taken t (rowAt w 0) (λ j. rowAt w (suc j))) k rows,
+              free-ext (struck t (rowAt w 0) (λ j. rowAt w (suc j))) (rowAt r) k (λ j q. sym (rows j q)),
+              free-ext (rowAt r) (struck t (rowAt w 0) (λ j. rowAt w (suc j))) k rows,
             )));
       }
 

@@ -20,7 +20,7 @@ use lib.Pow.{pow-mono}
 use borrow.Author.Tests.{eqb-true, eq-eqb}
 use Rattle.field.specs.Search.{upTo, some, total}
 use Rattle.field.specs.Mask.{_⊕_, coefficient, size, clmul, remainder}
-use Rattle.field.proofs.Search.{true-ne-false, some-at, some-of, total-s, total-ext}
+use Rattle.field.proofs.Search.{and-both, true-ne-false, some-at, some-of, total-s, total-ext}
 use Rattle.field.proofs.Xor.{digit-lt, ⊕-zero-r, ⊕-split, bit-⊕, bit-ext}
 use Rattle.field.proofs.MaskProduct.{size-lt, product-enough, clmul-comm}
 use Rattle.cyclic.proofs.Division.{_∣ₘ_, divides-iff}
@@ -95,10 +95,6 @@ pow-one (suc m) h =
     let high : 2 ^ suc m ≡ (2 ^ suc m + 1) / 2 * 2 = omega arith in
     let low : 1 ≡ (2 ^ suc m + 1) % 2 = omega arith in
     ap₂ _⊕_ high low ∙ ⊕-split (2 ^ suc m + 1)
-
-and-both : (p q : Bool) → p && q ≡ true → (p ≡ true) × (q ≡ true)
-and-both true q e = (refl, e)
-and-both false q e = absurd (true-ne-false e refl)
 
 pub common-iff : (f h : ℕ) → 0 < f → (common f h ≡ true) ↔ ((d : ℕ) × (1 < d) × (d ∣ₘ f) × (d ∣ₘ h))
 unfolding common

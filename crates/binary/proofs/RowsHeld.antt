@@ -1,16 +1,16 @@
 -- Rows of 8 places in one number: reading them, putting one more, and striking all of them at once.
 --
---   row-lt, row-first, row-next      a row is below 256; row 0; the rows of w / 256
+--   row-first, row-next       row 0, and the rows of w / 256
 --   row-kept, row-put, rows-lt       a row put above i others
 --   ones-row                  the coefficients of x^t of all rows, by one shift and one mask
 --   ones-room, rows-struck    the strike of the code
 use mathlib.Core.Path.{_≡_, refl, sym, ap, ap₂, _∙_, subst}
 use Prim.Native.Nat.{ℕ, zero, suc, _+_, _*_, _/_, _%_, _^_, _≤_, _<_}
-use native.Mathlib.Nat.{mod-lt, div-one, mul-assoc, mul-le-mul, mul-le-mul-right}
+use native.Mathlib.Nat.{div-one, mul-assoc, mul-le-mul, mul-le-mul-right}
 use native.Mathlib.Omega.{arith}
 use lib.Bits.{bitAnd, bitXor, and-shr, and-mod, and-mask, and-le-r}
 use lib.Dec.{eqb}
-use lib.Pow.{pow-pos, pow-add, shr-shr, mod-mod-pow}
+use lib.Pow.{pow-add, shr-shr, mod-mod-pow}
 use borrow.Author.Tests.{eqb-true}
 use Rattle.field.specs.Search.{upTo, every}
 use Rattle.field.specs.Mask.{_⊕_, coefficient}
@@ -21,10 +21,6 @@ use Rattle.binary.proofs.Digits.{digit-low}
 use Rattle.binary.proofs.Feeding.{low-sum}
 
 -- ---- one row
-pub row-lt : (w i : ℕ) → rowAt w i < 2 ^ 8
-unfolding rowAt
-row-lt w i = mod-lt _ (pow-pos 8)
-
 pub row-first : (w : ℕ) → rowAt w 0 ≡ w % 2 ^ 8
 unfolding rowAt
 row-first w = ap (λ (x : ℕ). x % 2 ^ 8) (div-one w)

@@ -1,5 +1,5 @@
-// Whether the powers 1, x^n, x^(2n), .. of a mask f's degree are linearly independent modulo f: the exact test of rule 3. The powers
-// stand as rows of 8 places in one number, and each row in turn is taken off those after it.
+// Whether the first u powers of x^n, which are 1, x^n, .. x^((u-1)n), are linearly independent modulo a mask f of degree u: the exact test
+// of rule 3. They stand as rows of 8 places in one number, and each row in turn is taken off those after it.
 ghost use mathlib.Core.Path.{_≡_};
 ghost use Prim.Native.Nat.{_^_, _<_};
 ghost use Rattle.field.specs.Mask.{clmul, remainder as remainderOf};
@@ -45,23 +45,23 @@ fn power_rows(f: usize, u: usize, n: usize) -> u64
     ensures { λ r. ⌜ PowersHeld u f n u r ⌝ }
 {
     let y = power_modulo(f, u, n);
-    let mut rows: u64 = 0;
+    let mut rows: u64 = 1;
     let mut a: usize = 1;
-    let mut i: usize = 0;
+    let mut i: usize = 1;
     while i < u {
-        rows = rows + ((a as u64) << (8 * i));
         a = times_modulo(f, u, a, y);
+        rows = rows + ((a as u64) << (8 * i));
         i = i + 1;
     }
     rows
 }
 
-// The rows after the first, with the first taken off those whose coefficient of x^t is 1.
-fn strike_rows(rows: u64, t: usize) -> u64
-    requires { ⌜ t < 8 ⌝ }
-    ensures { λ r. ⌜ RowsStruck t rows r ⌝ }
+// The rows after the first, with the first taken off those whose coefficient of x^top is 1.
+fn strike_rows(rows: u64, top: usize) -> u64
+    requires { ⌜ top < 8 ⌝ }
+    ensures { λ r. ⌜ RowsStruck top rows r ⌝ }
 {
-    let ones = (rows >> t) & 0x0101010101010101;
+    let ones = (rows >> top) & 0x0101010101010101;
     (rows ^ (ones * (rows % 256))) / 256
 }
 

@@ -6,7 +6,7 @@ ghost use Rattle.document.specs.Certificate.{distance as distanceOf};
 ghost use Rattle.sheet.specs.Stage.{certificateAs};
 ghost use Rattle.certificate.specs.Rules.{Checkable, CheckedBy, checkedAs, distanceIn};
 use crate::range::wrong_range;
-use crate::rules::common_factors;
+use crate::rules::factors_shared;
 use crate::rules::wrong_terms;
 use crate::types::Checked;
 use document::types::Refusal;
@@ -51,7 +51,7 @@ pub fn check(most: usize, n: usize, c: Certificate, zeros: &[u8]) -> Checked
         return Checked::Refused(Refusal::CommonFactor);
     }
     let u = binary::factor::degree(f);
-    if common_factors(n, f, u) {
+    if factors_shared(n, f, u) {
         return Checked::Refused(Refusal::Period);
     }
     if wrong_terms(n, c, zeros) {

@@ -41,7 +41,7 @@ pub fn wrong_terms(n: usize, c: Certificate, zeros: &[u8]) -> bool
 
 // Refusal 9: some f(α^i x) and f(α^j x), for different i and j below n, have a common factor. A period coprime to n says that none do,
 // and is looked at first.
-pub fn common_factors(n: usize, f: usize, u: usize) -> bool
+pub fn factors_shared(n: usize, f: usize, u: usize) -> bool
     requires { ⌜ Modulus f u × Length n ⌝ }
     ensures { λ r. ⌜ r ≡ not (factorsApart (orderOfTwo n) n f) ⌝ }
 {

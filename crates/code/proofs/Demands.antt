@@ -15,6 +15,7 @@
 -- among them, are the tables of document/proofs/Cases.antt.
 use mathlib.Core.Path.{_≡_, refl}
 use mathlib.Core.Logic.{_≢_, _↔_, _⊎_}
+use mathlib.Core.Bool.{true}
 use mathlib.Core.List.{List, [], _∷_, _++_}
 use Prim.Native.Nat.{ℕ, suc, _+_, _-_, _*_, _/_, _%_, _^_, _≤_, _<_, _∣_}
 use native.Mathlib.Omega.{arith}
@@ -26,19 +27,21 @@ use Rattle.document.specs.Answer.{returned, refused, firstOf}
 use Rattle.document.specs.Layout.{wordWeight, messageWeight, place, maskOf, bytesOf}
 use Rattle.document.specs.Sheet.{Stated, certificateAt}
 use Rattle.document.specs.Generator.{generatorPoly, differences}
-use Rattle.document.specs.Certificate.{distance}
+use Rattle.document.specs.Certificate.{rule3, distance}
 use Rattle.document.specs.Judge.{certificateConditions, dimensionOf, workingOf, workingCertificate}
+use Rattle.document.specs.OtherTest.{conditionsWith}
 use Rattle.document.specs.Entry.{CodewordOf, generatorOf, radiusOf, wordOf, changed}
 use Rattle.document.specs.Card.{refusedLine, acceptedLines}
-use Rattle.document.specs.Short.{stated, judgeOf, encodeOf, readOf, decodeOf, listing, cardOf}
+use Rattle.document.specs.Short.{short, stated, refusalsOf, judgeOf, encodeOf, readOf, decodeOf, listing, cardOf}
 use Rattle.document.proofs.Meaning.{differ-count}
+use Rattle.document.proofs.Tested.{conditions-are}
 use Rattle.codeword.proofs.Places.{mask-lt, mask-coefficient}
 use Rattle.code.specs.Published.{IsAccepted, SheetRead, Bytes, Word, Message, InDefiningSet, SetSize, ZeroAt}
 use Rattle.code.specs.Published.{HasDegree, Divides, Rule1, Rule3, Published, Rounded, WorkingIs, Systematic, WordDecoded, kept}
 use Rattle.code.specs.Turns.{FirstThatHolds}
 use Rattle.code.specs.Table.{SpareBit, NoneNear, sheetTurns, encodeTurns, readTurns, decodeTurns, cardTurns}
 use Rattle.code.specs.Table.{NoneNearSaid, NoCodewordSaid, Answered}
-use Rattle.code.specs.Before.{PeriodCoprime, judgeBefore}
+use Rattle.code.specs.Before.{PeriodCoprime, periodCoprime, judgeBefore}
 use Rattle.code.proofs.Tried.{judge-answered, encode-answered, read-answered, decode-answered, card-answered}
 use Rattle.code.proofs.Refusing.{read-sheet-bytes, sheet-first, card-writes, text-refused-iff, text-listed-iff}
 use Rattle.code.proofs.Refusing.{thirteen-iff, fourteen-iff}
@@ -48,7 +51,7 @@ use Rattle.code.proofs.Worded.{generator-degree-said, multiple-said, ze
 use Rattle.code.proofs.Worded.{encodes-said, reads-said, refused-said, certificate-published, accepted-published}
 use Rattle.code.proofs.Worded.{rounded-said, distance-said, working-said, record-said, found-said, decoded-said, none-said, apart-said}
 use Rattle.code.proofs.Worded.{length-here, radius-said}
-use Rattle.code.proofs.RuleThree.{period-suffices, nine-alone}
+use Rattle.code.proofs.RuleThree.{period-said, period-suffices, nine-alone}
 use Rattle.code.proofs.Rules.{modulus}
 use Rattle.code.proofs.Kept.{kept-said, encoded-said, word-said}
 
@@ -196,14 +199,18 @@ module _ (sheet : List ℕ) where
   -- specs/Before.antt has the rule that it was.
   pub record Request03 : Type 0 where
     -- "9 is returned, at its turn in 01's order, exactly when it fails": Rule3 is what stands at 9 in these turns
-    pub nine : (judgeOf sheet .number ≡ 9) ↔ FirstThatHolds (sheetTurns sheet) 9
+    pub refusal-nine : (judgeOf sheet .number ≡ 9) ↔ FirstThatHolds (sheetTurns sheet) 9
+    -- what it was: of a certificate that meets rule 1, the statement and what was computed; judging by it differs in this alone
+    pub before : IsAccepted sheet ⊎ (6 < judgeOf sheet .number) → (i : ℕ) → i < length (x .certificates) → Rule1 (x .n) (certificateAt x i)
+        → (periodCoprime (x .n) (certificateAt x i) ≡ true) ↔ PeriodCoprime (x .n) (certificateAt x i)
+    pub in-its-place : conditionsWith rule3 short sheet ≡ refusalsOf sheet
     -- a period coprime to n suffices
     pub period : IsAccepted sheet ⊎ (6 < judgeOf sheet .number) → (i : ℕ) → i < length (x .certificates) → Rule1 (x .n) (certificateAt x i)
         → PeriodCoprime (x .n) (certificateAt x i) → Rule3 (x .n) (certificateAt x i)
     -- so a sheet that was accepted is accepted still, with the same record
     pub accepted-still : judgeBefore sheet .number ≡ 0 → judgeOf sheet ≡ judgeBefore sheet
-    -- and one that was refused, but not with 9, is refused as it was
-    pub refused-still : judgeBefore sheet .number ≢ 9 → judgeOf sheet ≡ judgeBefore sheet
+    -- and judging answers what it did wherever that was not 9
+    pub answered-still : judgeBefore sheet .number ≢ 9 → judgeOf sheet ≡ judgeBefore sheet
     -- "Decoding keeps its full radius for every sheet accepted in this wider way": a word within t places of a codeword becomes it
     pub full-radius : IsAccepted sheet → (word out : List ℕ) → Word x word → length out ≡ (x .n + 7) / 8
         → (c : ℕ) → CodewordOf x c → changed x word c ≤ t
@@ -294,9 +301,11 @@ request-02 sheet = record {
 
 pub request-03 : (sheet : List ℕ) → Request03 sheet
 request-03 sheet = record {
-  nine = judge-answered sheet .refused 9 (omega arith);
+  refusal-nine = judge-answered sheet .refused 9 (omega arith);
+  before = λ h i l r. period-said (length-here sheet h) (certificateAt (stated sheet) i) (modulus r);
+  in-its-place = conditions-are short sheet;
   period = λ h i l r. period-suffices (length-here sheet h) (certificateAt (stated sheet) i) (modulus r);
   accepted-still = λ e. nine-alone sheet (λ n. omega (arith, e, n));
-  refused-still = nine-alone sheet;
+  answered-still = nine-alone sheet;
   full-radius = radius-said sheet;
 }

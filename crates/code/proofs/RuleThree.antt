@@ -5,12 +5,11 @@
 --   period-said        the rule before
 --   period-suffices    which suffices
 --   nine-alone         so judging answers what it did, but where it answered 9
-use mathlib.Core.Path.{_≡_, refl, sym, ap, _∙_, fun-ext, subst}
+use mathlib.Core.Path.{_≡_, sym, ap, _∙_, fun-ext, subst}
 use mathlib.Core.Logic.{_≢_, _↔_, _⊎_, inl, inr, Iff·trans}
 use mathlib.Core.List.{List, []}
 use Prim.Native.Nat.{ℕ, zero, suc, _+_, _^_, _<_, _∣_}
 use native.Mathlib.Omega.{arith}
-use lib.Pow.{pow-pos}
 use Rattle.algebra.proofs.Coprime.{Divides as Divides·proved}
 use Rattle.algebra.proofs.Series.{Ser, zero-at}
 use Rattle.algebra.proofs.Poly.{Below, Polys, is-poly}
@@ -19,7 +18,7 @@ use Rattle.algebra.proofs.CommonFactor.{CommonFactor}
 use Rattle.field.specs.Mask.{_⊕_}
 use Rattle.field.specs.Field.{Degree, fieldPower, orderOfTwo, α}
 use Rattle.field.proofs.OrderOfTwo.{order-divides}
-use Rattle.field.proofs.Elements.{F, GF, isField, el, el-zero, el-of, el-inj}
+use Rattle.field.proofs.Elements.{F, GF, isField, el, el-zero, el-of, el-inj, el-null}
 use Rattle.cyclic.proofs.Division.{_∣ₘ_}
 use Rattle.binary.specs.Factor.{period, Modulus}
 use Rattle.binary.proofs.MaskPeriod.{period-pos}
@@ -27,16 +26,17 @@ use Rattle.binary.proofs.Meaning.{coprime-iff, factor-iff, pow-one, period-divi
 use Rattle.binary.proofs.IndependentPowers.{denominator}
 use Rattle.document.specs.Answer.{firstOf, settle}
 use Rattle.document.specs.Sheet.{Certificate, Stated}
-use Rattle.document.specs.Apart.{turned}
+use Rattle.document.specs.Apart.{atRoot}
 use Rattle.document.specs.Certificate.{rule3}
 use Rattle.document.specs.Judge.{recordOf, judgeEntry}
+use Rattle.document.specs.OtherTest.{conditionsWith}
 use Rattle.document.specs.Short.{short, stated, judgeOf}
 use Rattle.document.proofs.Reflect.{Says}
 use Rattle.document.proofs.Sane.{settle-number}
 use Rattle.document.proofs.Theory.{Length, degree as degreeOf}
 use Rattle.document.proofs.Polynomials.{over, Elements, product-is, product-lt}
 use Rattle.document.proofs.ApartIs.{substituted-small, CommonAt, apart-common}
-use Rattle.document.proofs.Tested.{apart-coprime, modulus-of, conditionsWith, conditions-are, but-nine-first}
+use Rattle.document.proofs.Tested.{apart-coprime, modulus-of, conditions-are, but-nine-first}
 use Rattle.code.specs.Published.{Divides, PolynomialOver, DividesOver, Rule3}
 use Rattle.code.specs.Before.{PeriodCoprime, periodCoprime, judgeBefore}
 
@@ -53,15 +53,12 @@ module _ {s : ℕ} (d : Degree s) where
   unfolding numbers
   over-numbers p = fun-ext (λ k. el-of d (p k))
 
-  zero-of : (a : ℕ) → a < 2 ^ s → el d a ≡ GF d .𝟘 → a ≡ 0
-  zero-of a h e = el-inj d h (pow-pos s) (e ∙ sym (el-zero d))
-
   numbers-over : {n : ℕ} (p : ℕ → F s) → Below (GF d) n p → PolynomialOver s (numbers p)
   unfolding numbers
   numbers-over {n} p b = record {
     element = λ i. p i .1;
     end = n;
-    ends = λ i l. zero-of (p i .0) (p i .1) (el-of d (p i) ∙ b .at i l);
+    ends = λ i l. el-null d (p i .1) (el-of d (p i) ∙ b .at i l);
   }
 
   divides-there : (c p : ℕ → ℕ) → DividesOver s c p → Divides·proved (Polys (GF d)) (over d c) (over d p)
@@ -102,7 +99,7 @@ module _ {s : ℕ} (d : Degree s) where
       back w = go (degree-or (GF d) (isField d) (w .1 .end) (over d (w .0)) (below (w .0) (w .1)))
         where
           high : over d (w .0) (w .2 .0) ≢ GF d .𝟘
-          high e = w .2 .2 (zero-of (w .0 (w .2 .0)) (w .1 .element (w .2 .0)) e)
+          high e = w .2 .2 (el-null d (w .1 .element (w .2 .0)) e)
 
           split : (m : ℕ) → Deg (GF d) m (over d (w .0)) → CommonFactor (GF d) (over d p) (over d q)
           split zero g = absurd (high (g .below .at (w .2 .0) (w .2 .1)))
@@ -123,12 +120,12 @@ module _ {n : ℕ} (l : Length n) (c : Certificate) {u : ℕ} (m : Modulus (c .f
   abbrev d : Degree (orderOfTwo n)
   d = degreeOf l
 
-  abbrev turnedBy : ℕ → ℕ → ℕ
-  turnedBy i = turned (orderOfTwo n) n (c .f) i
+  abbrev fAt : ℕ → ℕ → ℕ
+  fAt i = atRoot (orderOfTwo n) n (c .f) i
 
-  at : (i j : ℕ) → CommonAt d n (c .f) i j ↔ Shared d (turnedBy i) (turnedBy j)
+  at : (i j : ℕ) → CommonAt d n (c .f) i j ↔ Shared d (fAt i) (fAt j)
   at i j =
-      common-said d (turnedBy i) (turnedBy j) (substituted-small d (fieldPower (orderOfTwo n) (α (orderOfTwo n) n) i) (c .f))
+      common-said d (fAt i) (fAt j) (substituted-small d (fieldPower (orderOfTwo n) (α (orderOfTwo n) n) i) (c .f))
       (substituted-small d (fieldPower (orderOfTwo n) (α (orderOfTwo n) n) j) (c .f))
 
   pub rule3-said : Says (rule3 n c) (Rule3 n c)

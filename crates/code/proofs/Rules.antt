@@ -1,6 +1,7 @@
 -- The rules of a certificate as they are computed, and as they are published.
 --
 --   odd-of                   f with constant term 1
+--   modulus                  f of a certificate that meets rule 1
 --   rule1-said, rule2-said, rule4-said      each rule, both ways, but 3 (RuleThree.antt): 2 and 4 for a certificate that meets rule 1
 --   certificate-said, certificates-said      so the conditions 7 to 10, of one certificate and of a list
 --   published-iff            a certificate meets the rules exactly when it meets the published conditions
@@ -9,7 +10,7 @@ use mathlib.Core.Path.{_≡_, refl, sym, ap, _∙_, subst}
 use mathlib.Core.Logic.{_↔_, _⊎_, Iff·trans, Iff·not}
 use mathlib.Core.Bool.{Bool, not, _||_}
 use mathlib.Core.List.{List, [], _∷_, flatMap}
-use Prim.Native.Nat.{ℕ, _+_, _-_, _*_, _%_, _≤_, _<_}
+use Prim.Native.Nat.{ℕ, _+_, _*_, _%_, _≤_, _<_}
 use native.Mathlib.Nat.{div-one}
 use native.Mathlib.Omega.{arith}
 use lib.Dec.{eqb}

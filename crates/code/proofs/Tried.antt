@@ -1,5 +1,6 @@
 -- Each entry's conditions, in its order, are the statements of document 01's table.
 --
+--   length-of                a length that draws neither 2 nor 3
 --   head-said, sheet-said      the conditions 1 to 6, and 1 to 10
 --   accepted-of              where none of 1 to 10 holds, the sheet is accepted
 --   codeword-said, near-said      a codeword as it is tested; no codeword near as it is searched for
@@ -36,7 +37,7 @@ use Rattle.code.specs.Table.{readOwn, readTurns, decodeOwn, decodeTurns,
 use Rattle.code.proofs.InTurn.{Said, said-none, said-append, answered, judged-answered}
 use Rattle.code.proofs.Rules.{certificates-said}
 
-pub odd-length : {n : ℕ} → ¬ WrongCodeLength n → OddLength n
+odd-length : {n : ℕ} → ¬ WrongCodeLength n → OddLength n
 odd-length {n} h = record {
   least = elim (decLt n 3) [ yes l ↦ absurd (h (inr (inl l))) | no l ↦ omega arith ];
   most = elim (decLt 127 n) [ yes l ↦ absurd (h (inr (inr l))) | no l ↦ omega arith ];

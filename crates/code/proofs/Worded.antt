@@ -6,7 +6,7 @@
 --   generator-said, generator-degree-said      the generator's coefficients, and its degree
 --   multiple-said, zeros-said      what a codeword is
 --   encodes-said, reads-said, refused-said      encoding and reading out
---   draws-none               a sheet that draws none of 1 to 6
+--   draws-none, length-here      a sheet that draws none of 1 to 6, and its length
 --   accepted-published, certificate-published      certificates by the published conditions
 --   working-said, record-said      the working certificate, and the record
 --   found-said, decoded-said, none-said, radius-said      decoding

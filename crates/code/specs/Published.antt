@@ -1,7 +1,6 @@
--- What document 01 publishes, with document 02's layout of words and rule 3, as statements: the words in which proofs/Demands.antt says the three demands
--- and the requests. The conditions of a certificate
--- have no search in them; s, k, the generator and the working certificate, which the definitions search for or compute, are named, and
--- fields of the demands say what they are (degree, dimension, generator, working).
+-- What document 01 publishes, with document 02's layout of words and rule 3, as statements: the words in which proofs/Demands.antt says the
+-- three demands and the requests. The conditions of a certificate have no search in them; s, k, the generator and the working certificate,
+-- which the definitions search for or compute, are named, and fields of the demands say what they are (degree, dimension, generator, working).
 --
 --   IsAccepted sheet                 judging refuses nothing
 --   CertificateRead, SheetRead     what a sheet's bytes state
@@ -26,7 +25,7 @@ use Rattle.document.specs.Answer.{Answer}
 use Rattle.document.specs.Layout.{wordWeight, messageWeight, place, maskOf}
 use Rattle.document.specs.Sheet.{Certificate, Stated, certificateAt}
 use Rattle.document.specs.Generator.{valueAt}
-use Rattle.document.specs.Apart.{productAt, turned}
+use Rattle.document.specs.Apart.{productAt, atRoot}
 use Rattle.document.specs.Certificate.{distance, radius}
 use Rattle.document.specs.Judge.{dimensionOf}
 use Rattle.document.specs.Entry.{generatorOf, radiusOf, CodewordOf, wordOf, changed}
@@ -133,7 +132,7 @@ abbrev pub Rule3 : ℕ → Certificate → Type 0
 Rule3 n c =
     let s : ℕ = orderOfTwo n in
     (i j : ℕ) → i < n → j < n → i ≢ j → (d : ℕ → ℕ) → PolynomialOver s d → (k : ℕ) → 0 < k → d k ≢ 0
-    → DividesOver s d (turned s n (c .f) i) → ¬ DividesOver s d (turned s n (c .f) j)
+    → DividesOver s d (atRoot s n (c .f) i) → ¬ DividesOver s d (atRoot s n (c .f) j)
 
 -- "The sequence a0, a1, .. is the power series h/f over two elements": f times the series a is h.
 -- "4. for each j below L, aj is 0 or (b + j·z) mod n is in D."

@@ -4,7 +4,7 @@
 --   FactorsApart C f        they are, for all different i and j below n: what a certificate asks of its denominator
 --   apart            where f divides x^p + 1, for some p coprime to n; apart-period: such as the period
 --   apart-step       and then also for the powers of α^z, with z coprime to n
---   Turned C f i, apart-iff      f(x) and f(α^i x) are; it is enough that they are for each i from 1 to n - 1
+--   CoprimeAt C f i, apart-iff      f(x) and f(α^i x) are; it is enough that they are for each i from 1 to n - 1
 use mathlib.Core.Path.{_≡_, refl, sym, ap, ap₂, _∙_, subst, fun-ext}
 use mathlib.Core.Logic.{_≢_, _⊎_, inl, inr, _↔_}
 use Prim.Native.Nat.{ℕ, zero, suc, _+_ as _+ℕ_, _-_ as _-ℕ_, _*_ as _*ℕ_, _%_, _^_, _≤_, _<_}
@@ -128,25 +128,25 @@ module _ {A : Type 0} {R : Ring A} {n : ℕ} (C : Code R n) where
       (sym (pow-mul R α i z) ∙ pow-eq R α n order (i *ℕ z) (j *ℕ z) .1 e ∙ pow-mul R α j z))))
 
   -- ---- by the difference of i and j
-  abbrev pub Turned : ℕ → ℕ → Type 0
-  Turned f i = Coprime (Polys R) (lift R f) (sub R (pow R α i) (lift R f))
+  abbrev pub CoprimeAt : ℕ → ℕ → Type 0
+  CoprimeAt f i = Coprime (Polys R) (lift R f) (sub R (pow R α i) (lift R f))
 
   -- α^i x for x
-  shift : (f i d : ℕ) → Turned f d → Coprime (Polys R) (sub R (pow R α i) (lift R f)) (sub R (pow R α (i +ℕ d)) (lift R f))
+  shift : (f i d : ℕ) → CoprimeAt f d → Coprime (Polys R) (sub R (pow R α i) (lift R f)) (sub R (pow R α (i +ℕ d)) (lift R f))
   shift f i d t =
       subst (λ p. Coprime (Polys R) (sub R (pow R α i) (lift R f)) p)
       (sub-sub R _ _ (lift R f) ∙ ap (λ x. sub R x (lift R f)) (sym (pow-add R α i d))) (sub-coprime R (pow R α i) t)
 
-  pub apart-iff : (f : ℕ) → FactorsApart f ↔ ((i : ℕ) → 0 < i → i < n → Turned f i)
+  pub apart-iff : (f : ℕ) → FactorsApart f ↔ ((i : ℕ) → 0 < i → i < n → CoprimeAt f i)
   apart-iff f = (there, back)
     where
-      there : FactorsApart f → (i : ℕ) → 0 < i → i < n → Turned f i
+      there : FactorsApart f → (i : ℕ) → 0 < i → i < n → CoprimeAt f i
       there a i h l =
           subst (λ p. Coprime (Polys R) p (sub R (pow R α i) (lift R f)))
           (ap (λ x. sub R x (lift R f)) (pow-z R α) ∙ sub-unit R (lift R f))
           (a 0 i (order .pos) l (λ e. omega arith))
 
-      back : ((i : ℕ) → 0 < i → i < n → Turned f i) → FactorsApart f
+      back : ((i : ℕ) → 0 < i → i < n → CoprimeAt f i) → FactorsApart f
       back t i j hi hj ne = go (decLt i j)
         where
           go : Dec (i < j) → Coprime (Polys R) (sub R (pow R α i) (lift R f)) (sub R (pow R α j) (lift R f))

@@ -30,7 +30,7 @@ use Rattle.cyclic.proofs.Apart.{FactorsApart, apart-step}
 use Rattle.cyclic.proofs.Errors.{Place, all, all-sum, place-eq}
 use Rattle.cyclic.proofs.Syndromes.{Syndromes, weighted, syndrome}
 
--- rule 3 enters by `apart`, which apart-period makes of a period coprime to n
+-- rule 3 is `apart`
 pub record RationalCertificate {A : Type 0} {R : Ring A} {n : ℕ} (C : Code R n) : Type 0 where
   pub b : ℕ
   pub z : ℕ

@@ -30,7 +30,7 @@ use Rattle.cyclic.proofs.Monic.{monic-deg}
 use Rattle.cyclic.proofs.Lift.{lift, lift-add, lift-mul, lift-zero, lift-one, lift-pow2, lift-poly, lift-below, lift-monic, lift-null}
 use Rattle.cyclic.proofs.Period.{Denominator}
 use Rattle.cyclic.proofs.CyclicCode.{Code, power-ne}
-use Rattle.cyclic.proofs.Apart.{FactorsApart, Turned, sub-mono, const-add, apart-iff}
+use Rattle.cyclic.proofs.Apart.{FactorsApart, CoprimeAt, sub-mono, const-add, apart-iff}
 use Rattle.cyclic.proofs.Errors.{Place, all, all-length, all-distinct, place-eq}
 use Rattle.cyclic.proofs.Divides.{prod-divides}
 
@@ -172,13 +172,13 @@ module _ {A : Type 0} {R : Ring A} {n : ℕ} (C : Code R n) {u f : ℕ} (d : Den
           (ap (lift R) (sym (clmul-two (f / 2))) ∙ lift-mul R 2 (f / 2) ∙ ap (λ y. y ⊗ lift R (f / 2)) (lift-pow2 R 1))
           (ap (lift R) (d .odd) ∙ lift-one R)
 
-      test : (i : ℕ) → 0 < i → i < n → Turned C f i
+      test : (i : ℕ) → 0 < i → i < n → CoprimeAt C f i
       test i h l = record {
         u = 1ₛ ⊕ const R k ⊗ lift R (f / 2) ⊗ lift R (w .0);
         v = const R k ⊗ lift R (f / 2) ⊗ sub R c (lift R (w .0));
         u-in = S .has-add (S .has-one) (S .has-mul (S .has-mul (const-poly R k) (lift-poly R _)) (lift-poly R _));
         v-in = S .has-mul (S .has-mul (const-poly R k) (lift-poly R _)) (sub-poly R c (lift-poly R _));
-        eq = combination (Ser R) (lift R f) (sub R c (lift R f)) _ _ Q x (const R c) (const R k) (lift R (f / 2)) whole turned inverse odd;
+        eq = combination (Ser R) (lift R f) (sub R c (lift R f)) _ _ Q x (const R c) (const R k) (lift R (f / 2)) whole moved inverse odd;
       }
         where
           S : Sub (Ser R) (IsPoly R)
@@ -190,8 +190,8 @@ module _ {A : Type 0} {R : Ring A} {n : ℕ} (C : Code R n) {u f : ℕ} (d : Den
           k : A
           k = K .inv (R .add 𝟙 c)
 
-          turned : Q ⊕ const R c ⊗ x ≡ sub R c (lift R f) ⊗ sub R c (lift R (w .0))
-          turned =
+          moved : Q ⊕ const R c ⊗ x ≡ sub R c (lift R f) ⊗ sub R c (lift R (w .0))
+          moved =
               sym
               (ap₂ _⊕_ (fixed R c n (unity i) P) (sub-mono R c 1 ∙ ap (λ y. const R y ⊗ x) (pow-1 R c)))
               ∙ sym (sub-add R c Q x) ∙ ap (sub R c) whole ∙ sub-mul R c _ _

@@ -1,11 +1,10 @@
--- Masks as a ring, and P(x^n) for a mask P.
+-- MaskRing as a ring, and P(x^n) for a mask P.
 --
---   Masks            the ring of masks
+--   MaskRing            the ring of masks
 --   monomial i       x^i as a mask: 2^i (monomial-is)
 --   spread i c       c(x^i): spread-add, spread-dbl, spread-zero, spread-one, spread-step
 --   spread-lt, spread-null      its size, and that nothing is lost
 use mathlib.Core.Path.{_≡_, refl, sym, ap, ap₂, _∙_, subst}
-use mathlib.Core.Logic.{_↔_}
 use mathlib.Core.HLevel.{hedberg}
 use Prim.Native.Nat.{ℕ, zero, suc, _*_, _/_, _%_, _^_, _≤_, _<_}
 use native.Mathlib.Nat.{pow-suc, mul-suc, mul-pos, zero-mul, mul-lt-mul-of-pos-right}
@@ -13,17 +12,15 @@ use native.Mathlib.Decide.{ℕ-discrete}
 use native.Mathlib.Omega.{arith}
 use lib.Arith.{bin-ind}
 use lib.Pow.{pow-pos, pow-mono, pow-add as pow-addℕ}
-use Rattle.algebra.proofs.Ring.{Ring, one-mul, zero-mul as 𝟘-mul, add-self, eq-of-add}
+use Rattle.algebra.proofs.Ring.{Ring}
 use Rattle.algebra.proofs.Power.{pow, pow-z, pow-s}
-use Rattle.algebra.proofs.Power as Power
 use Rattle.field.specs.Mask.{_⊕_, clmul}
 use Rattle.field.proofs.Xor.{digit, digit-lt, ⊕-assoc, ⊕-comm, ⊕-zero-r, ⊕-self, ⊕-eq, ⊕-lt, ⊕-split}
 use Rattle.field.proofs.MaskProduct.{clmul-assoc, clmul-comm, clmul-one-r, clmul-add-r, clmul-two, clmul-pow}
-use Rattle.field.proofs.Value.{value, ext, value-zero, value-one, value-dbl, value-add, value-mul}
-use Rattle.cyclic.proofs.Division.{_∣ₘ_}
+use Rattle.field.proofs.Value.{value, value-zero, value-one, value-dbl, value-add}
 
-abbrev pub Masks : Ring ℕ
-Masks = record {
+abbrev pub MaskRing : Ring ℕ
+MaskRing = record {
   is-set = hedberg ℕ-discrete;
   add = _⊕_;
   mul = clmul;
@@ -40,32 +37,32 @@ Masks = record {
 }
 
 unfoldable pub monomial : ℕ → ℕ
-monomial i = pow Masks 2 i
+monomial i = pow MaskRing 2 i
 
 pub monomial-is : (i : ℕ) → monomial i ≡ 2 ^ i
 unfolding monomial
-monomial-is zero = pow-z Masks 2
+monomial-is zero = pow-z MaskRing 2
 monomial-is (suc i) =
-    pow-s Masks 2 i ∙ ap (clmul 2) (monomial-is i) ∙ clmul-two (2 ^ i) ∙ sym (pow-suc 2 i)
+    pow-s MaskRing 2 i ∙ ap (clmul 2) (monomial-is i) ∙ clmul-two (2 ^ i) ∙ sym (pow-suc 2 i)
 
 unfoldable pub spread : ℕ → ℕ → ℕ
-spread i c = value Masks (monomial i) c
+spread i c = value MaskRing (monomial i) c
 
 pub spread-add : (i a b : ℕ) → spread i (a ⊕ b) ≡ spread i a ⊕ spread i b
 unfolding spread
-spread-add i = value-add Masks (monomial i)
+spread-add i = value-add MaskRing (monomial i)
 
 pub spread-dbl : (i a : ℕ) → spread i (a * 2) ≡ spread i a * 2 ^ i
 unfolding spread
-spread-dbl i a = value-dbl Masks (monomial i) a ∙ ap (clmul _) (monomial-is i) ∙ clmul-pow _ i
+spread-dbl i a = value-dbl MaskRing (monomial i) a ∙ ap (clmul _) (monomial-is i) ∙ clmul-pow _ i
 
 pub spread-zero : (i : ℕ) → spread i 0 ≡ 0
 unfolding spread
-spread-zero i = value-zero Masks (monomial i)
+spread-zero i = value-zero MaskRing (monomial i)
 
 pub spread-one : (i : ℕ) → spread i 1 ≡ 1
 unfolding spread
-spread-one i = value-one Masks (monomial i)
+spread-one i = value-one MaskRing (monomial i)
 
 spread-digit : (i x : ℕ) → x < 2 → spread i x ≡ x
 spread-digit i = digit (λ x. spread i x ≡ x) (spread-zero i) (spread-one i)

@@ -2,6 +2,7 @@
 --
 --   substituted-is, substituted-small, substituted-short      f(a x) on numbers is the theory's f(a x)
 --   CommonAt d n f i j      f(α^i x) and f(α^j x) have a common factor, over the field
+--   bareCode         a code over a field of the table, with no defining set
 --   apart-common     `factorsApart` is true exactly where no two of them have, for different i and j below n
 --   apart-defined    so it says what the theory's FactorsApart does, of each code over a field of the table: its D plays no part
 use mathlib.Core.Path.{_≡_, refl, sym, ap, _∙_, subst, fun-ext}
@@ -33,7 +34,7 @@ use Rattle.cyclic.proofs.Lift.{lift, lift-at, lift-below, lift-monic}
 use Rattle.cyclic.proofs.Period.{Denominator}
 use Rattle.cyclic.proofs.CyclicCode.{Code, tableCode, power-ne}
 use Rattle.cyclic.proofs.Apart.{FactorsApart}
-use Rattle.document.specs.Apart.{commonOver, substituted, turned, pairApart, factorsApart}
+use Rattle.document.specs.Apart.{commonOver, substituted, atRoot, pairApart, factorsApart}
 use Rattle.document.proofs.Polynomials.{over, Elements, common-sound, common-complete}
 
 module _ {s : ℕ} (d : Degree s) (a f : ℕ) where
@@ -62,32 +63,33 @@ module _ {s : ℕ} (d : Degree s) (a f : ℕ) where
 
 -- f(α^i x) and f(α^j x), on numbers, have a common factor over the field
 abbrev pub CommonAt : {s : ℕ} → Degree s → ℕ → ℕ → ℕ → ℕ → Type 0
-CommonAt {s} d n f i j = CommonFactor (GF d) (over d (turned s n f i)) (over d (turned s n f j))
+CommonAt {s} d n f i j = CommonFactor (GF d) (over d (atRoot s n f i)) (over d (atRoot s n f j))
+
+-- the code with no defining set: that plays no part
+abbrev pub bareCode : {s : ℕ} (d : Degree s) (n : ℕ) → n ∣ 2 ^ s - 1 → Code (GF d) n
+bareCode d n h = tableCode d h (λ i. false) (λ i l t. absurd t)
 
 module _ {s : ℕ} (d : Degree s) (n : ℕ) (h : n ∣ 2 ^ s - 1) {u : ℕ} (f : ℕ) (g : Denominator u f) where
-  abbrev C : Code (GF d) n
-  C = tableCode d h (λ i. false) (λ i l t. absurd t)
-
-  at-is : (i : ℕ) → over d (turned s n f i) ≡ sub (GF d) (pow (GF d) (root d n) i) (lift (GF d) f)
+  at-is : (i : ℕ) → over d (atRoot s n f i) ≡ sub (GF d) (pow (GF d) (root d n) i) (lift (GF d) f)
   at-is i =
       substituted-is d (fieldPower s (α s n) i) f
       ∙ ap (λ x. sub (GF d) x (lift (GF d) f)) (el-power d (α s n) i ∙ ap (λ x. pow (GF d) x i) (el-root d n))
 
-  at-ne : (i : ℕ) → over d (turned s n f i) ≢ Ser (GF d) .𝟘
+  at-ne : (i : ℕ) → over d (atRoot s n f i) ≢ Ser (GF d) .𝟘
   at-ne i e =
-      sub-deg (GF d) (isField d) (pow (GF d) (root d n) i) (power-ne C i) (monic-deg (GF d) (isField d) (lift-monic (GF d) f (g .degree))) .top
+      sub-deg (GF d) (isField d) (pow (GF d) (root d n) i) (power-ne (bareCode d n h) i) (monic-deg (GF d) (isField d) (lift-monic (GF d) f (g .degree))) .top
       (ap (λ x. x u) (sym (at-is i)) ∙ ap (λ x. x u) e ∙ zero-at (GF d) u)
 
-  at-poly : (i : ℕ) → IsPoly (GF d) (over d (turned s n f i))
+  at-poly : (i : ℕ) → IsPoly (GF d) (over d (atRoot s n f i))
   at-poly i = is-poly (GF d) (substituted-short d (fieldPower s (α s n) i) f)
 
-  common-is : (i j : ℕ) → (commonOver s (size f) (turned s n f i) (turned s n f j) ≡ true) ↔ CommonAt d n f i j
+  common-is : (i j : ℕ) → (commonOver s (size f) (atRoot s n f i) (atRoot s n f j) ≡ true) ↔ CommonAt d n f i j
   common-is i j =
       let a : ℕ = fieldPower s (α s n) i in
       let b : ℕ = fieldPower s (α s n) j in (
-        common-sound d (turned s n f i) (turned s n f j) (substituted-small d a f) (substituted-small d b f) (substituted-short d a f)
+        common-sound d (atRoot s n f i) (atRoot s n f j) (substituted-small d a f) (substituted-small d b f) (substituted-short d a f)
             (substituted-short d b f) (at-ne i),
-        common-complete d (turned s n f i) (turned s n f j) (substituted-small d a f) (substituted-small d b f) (substituted-short d a f)
+        common-complete d (atRoot s n f i) (atRoot s n f j) (substituted-small d a f) (substituted-small d b f) (substituted-short d a f)
             (substituted-short d b f) (at-ne i),
       )
 
@@ -99,8 +101,8 @@ module _ {s : ℕ} (d : Degree s) (n : ℕ) (h : n ∣ 2 ^ s - 1) {u : ℕ} (f :
   pair-is : (i j : ℕ) → i ≢ j → (pairApart s n f i j ≡ true) ↔ (¬ CommonAt d n f i j)
   unfolding pairApart
   pair-is i j ne = (
-    λ e w. there (eqb i j) refl (commonOver s (size f) (turned s n f i) (turned s n f j)) e (common-is i j .1 w),
-    λ k. back (commonOver s (size f) (turned s n f i) (turned s n f j)) refl k,
+    λ e w. there (eqb i j) refl (commonOver s (size f) (atRoot s n f i) (atRoot s n f j)) e (common-is i j .1 w),
+    λ k. back (commonOver s (size f) (atRoot s n f i) (atRoot s n f j)) refl k,
   )
     where
       there : (b : Bool) → eqb i j ≡ b → (c : Bool) → b || not c ≡ true → c ≡ true → ⊥
@@ -112,7 +114,7 @@ module _ {s : ℕ} (d : Degree s) (n : ℕ) (h : n ∣ 2 ^ s - 1) {u : ℕ} (f :
       or-right true = refl
       or-right false = refl
 
-      back : (c : Bool) → commonOver s (size f) (turned s n f i) (turned s n f j) ≡ c → (¬ CommonAt d n f i j)
+      back : (c : Bool) → commonOver s (size f) (atRoot s n f i) (atRoot s n f j) ≡ c → (¬ CommonAt d n f i j)
           → eqb i j || not c ≡ true
       back true q k = absurd (k (common-is i j .0 q))
       back false q k = or-right (eqb i j)
@@ -134,7 +136,7 @@ module _ {s : ℕ} (d : Degree s) (n : ℕ) (h : n ∣ 2 ^ s - 1) {u : ℕ} (f :
   coprime-at i j =
       rw (← at-is i, ← at-is j) (no-common-iff (GF d) (isField d) (at-poly i) (at-poly j) (at-ne i))
 
-  pub apart-defined : (factorsApart s n f ≡ true) ↔ FactorsApart C f
+  pub apart-defined : (factorsApart s n f ≡ true) ↔ FactorsApart (bareCode d n h) f
   apart-defined = (
     λ e i j hi hj ne. coprime-at i j .1 (apart-common .0 e i j hi hj ne),
     λ a. apart-common .1 (λ i j hi hj ne. coprime-at i j .0 (a i j hi hj ne)),

@@ -7,20 +7,22 @@
 --   said, expected, cases-hold          the twelve cases: what the definitions say is what document 01 says
 --   refusals-hold                       the examples of "Refused, by number", 1 to 14, by their numbers
 --   near-hold                           near misses: each row with the misreadings that it catches
+--   before-hold                         rule 3 as it was refused the sheets of 2026-03
 --   listings-hold                       the listing of sheet H and of three others, byte for byte
 -- Where document 01 abbreviates an example of a refusal, the sheet is H with what is said changed.
 use mathlib.Core.Path.{_≡_, refl, ap, _∙_}
+use mathlib.Core.Bool.{Bool}
 use mathlib.Core.List.{List, [], _∷_, _++_, flatMap}
 use Prim.Native.Nat.{ℕ, zero, suc, _+_}
 use lib.ListN.{length, getD, set, replicate}
 use Rattle.field.specs.Search.{leastFrom, least, upTo, keep, some, every, total}
 use Rattle.field.specs.Mask.{_⊕_, size, productBelow, clmul, divideDown, remainder}
 use Rattle.field.specs.Field.{masks, mask, fieldMultiply, fieldPower, α, orderOfTwo}
-use Rattle.binary.specs.Factor.{coprime, degree, divides, common, terms}
+use Rattle.binary.specs.Factor.{coprime, degree, divides, common, period, terms}
 use Rattle.binary.specs.Independence.{valueModulo, independent}
 use Rattle.document.specs.Answer.{Answer, firstOf, settle}
 use Rattle.document.specs.Layout.{wordWeight, messageWeight, bytesFor, place, maskOf, byteOf, bytesOf, spare}
-use Rattle.document.specs.Sheet.{certificateAt, statedBy, wrongLength, wrongCodeLength, wrongHeader}
+use Rattle.document.specs.Sheet.{Certificate, certificateAt, statedBy, wrongLength, wrongCodeLength, wrongHeader}
 use Rattle.document.specs.Coset.{inCoset, smallest, inSet, definingSet, dimension}
 use Rattle.document.specs.Generator.{addPoly, timesRoot, rootProduct, generatorPoly, maskOfPoly, generator, isCodeword}
 use Rattle.document.specs.Generator.{encodeMask, messageOf, differences, nearest}
@@ -31,8 +33,9 @@ use Rattle.document.specs.Entry.{generatorOf, radiusOf, encodeConditions
 use Rattle.document.specs.Entry.{nearestMessage, decodedWord, decodeConditions, decodeEntry}
 use Rattle.document.specs.Card.{decimalIn, decimal, codeLine, zerosLine, generatorLine, certificateLine, radiusLine}
 use Rattle.document.specs.Card.{refusedLine, acceptedLines, listingFor, listingOf, cardConditions, cardEntry}
-use Rattle.document.specs.Short.{stated}
-use Rattle.document.proofs.Tested.{fourWith, conditionsWith, testedOf, Entries, entriesBy, documented, entries-tested}
+use Rattle.document.specs.Short.{short, stated}
+use Rattle.document.specs.OtherTest.{fourWith, conditionsWith}
+use Rattle.document.proofs.Tested.{testedOf, Replies, repliesBy, documented, replies-tested}
 
 -- all definitions, for the lemmas that compute
 definitions : ℕ
@@ -75,7 +78,7 @@ sheetS L = oneCertificate 17 (1 ∷ []) 13 1 7 3 L
 sheetB : ℕ → List ℕ
 sheetB L = oneCertificate 15 (1 ∷ 3 ∷ []) 1 1 3 1 L
 
-module _ (E : Entries) where
+module _ (E : Replies) where
   -- k, d and t of the record, and the generator where it is asked for; or a refusal's number alone
   facts : List ℕ → List ℕ
   facts sheet = pick (E .judge sheet)
@@ -130,15 +133,15 @@ expected =
     ∷ (7 ∷ 5 ∷ 2 ∷ 10 ∷ [])
     ∷ []
 
-cases-computed : said (entriesBy testedOf) ≡ expected
+cases-computed : said (repliesBy testedOf) ≡ expected
 unfolding said expected facts encodes decodes sheetH sheetE sheetS sheetB oneCertificate sheetOf definitions
 cases-computed = refl
 
 cases-hold : said documented ≡ expected
-cases-hold = ap said entries-tested ∙ cases-computed
+cases-hold = ap said replies-tested ∙ cases-computed
 
 -- ---- the refusals
-module _ (E : Entries) where
+module _ (E : Replies) where
   judged : List ℕ → ℕ
   judged sheet = E .judge sheet .number
 
@@ -166,12 +169,12 @@ module _ (E : Entries) where
       ∷ readOut sheetH (0x80 ∷ [])  -- n = 7, representative 1, word 80
       ∷ []
 
-refusals-computed : refusals (entriesBy testedOf) ≡ 1 ∷ 2 ∷ 3 ∷ 4 ∷ 5 ∷ 6 ∷ 7 ∷ 8 ∷ 9 ∷ 10 ∷ 11 ∷ 12 ∷ 13 ∷ 14 ∷ []
+refusals-computed : refusals (repliesBy testedOf) ≡ 1 ∷ 2 ∷ 3 ∷ 4 ∷ 5 ∷ 6 ∷ 7 ∷ 8 ∷ 9 ∷ 10 ∷ 11 ∷ 12 ∷ 13 ∷ 14 ∷ []
 unfolding refusals judged decoded readOut sheetH sheetE sheetS oneCertificate sheetOf definitions
 refusals-computed = refl
 
 refusals-hold : refusals documented ≡ 1 ∷ 2 ∷ 3 ∷ 4 ∷ 5 ∷ 6 ∷ 7 ∷ 8 ∷ 9 ∷ 10 ∷ 11 ∷ 12 ∷ 13 ∷ 14 ∷ []
-refusals-hold = ap refusals entries-tested ∙ refusals-computed
+refusals-hold = ap refusals replies-tested ∙ refusals-computed
 
 -- ---- near misses: rows that definitions a step away would get wrong. Beside each row stand the misreadings that it catches.
 twoCertificates : ℕ → List ℕ → List ℕ → List ℕ → List ℕ
@@ -184,7 +187,7 @@ certificateOf b z f high h L = b ∷ z ∷ f ∷ high ∷ h ∷ 0 ∷ L ∷ 0 �
 nine : List ℕ
 nine = oneCertificate 9 (0 ∷ []) 0 1 3 1 1
 
-module _ (E : Entries) where
+module _ (E : Replies) where
   record-of : List ℕ → List ℕ
   record-of sheet = let a : Answer = E .judge sheet in a .number ∷ a .values
 
@@ -198,8 +201,8 @@ module _ (E : Entries) where
       ∷ record-of (oneCertificate 7 (1 ∷ []) 1 3 3 1 2)  -- no z but 1 admitted: the places 1, 4 are in D
       ∷ record-of (sheetS 8)  -- d rounded down: it is 4.5, so 5, and t is 2, not 1
       ∷ record-of (oneCertificate 7 (0 ∷ 1 ∷ []) 0 1 31 8 1)  -- L below v refused, or d taken as 0 or from v - L: it is 1
-      ∷ record-of (oneCertificate 9 (0 ∷ []) 0 1 31 1 1)  -- 2^u - 1 = 15 taken for the period of f, which is 5
-      ∷ record-of (oneCertificate 21 (1 ∷ []) 1 1 19 11 8)  -- the period alone looked at: that of f is 15, and no f(α^i x) have a common factor
+      ∷ record-of (oneCertificate 9 (0 ∷ []) 0 1 31 1 1)  -- f of degree 4 held to 2^4 - 1 = 15: its period is 5
+      ∷ record-of (oneCertificate 21 (1 ∷ []) 1 1 19 11 8)  -- the period alone looked at: that of f is 15, and no two f(α^i x) have a common factor
       ∷ record-of (oneCertificate 21 (1 ∷ 3 ∷ 7 ∷ []) 14 5 19 7 15)  -- so with a step other than 1
       ∷ record-of (oneCertificate 21 (1 ∷ []) 1 1 7 2 8)  -- 9 never drawn, or 10 tried before it: f is 7
       ∷ record-of (twoCertificates 7 (0 ∷ 1 ∷ []) (certificateOf 0 1 3 0 1 2) (certificateOf 0 1 3 0 1 3))  -- the largest d at work, or the last of the largest t: d is 3 and 4, t is 1 and 1
@@ -222,7 +225,7 @@ module _ (E : Entries) where
       ∷ answered (E .decode sheetH (0x51 ∷ []) (0xAA ∷ 0xBB ∷ []))  -- an output too long taken; 12 tried before it
       ∷ answered (E .decode (sheetE 3) (0xC1 ∷ []) (0xAA ∷ []))  -- 13 tried before 12
       ∷ answered (E .decode (sheetE 3) (0xC0 ∷ []) (0xAA ∷ []))  -- the output cleared, or a word written, beside 13
-      ∷ answered (E .card sheetH (0xAA ∷ []))  -- what fits of the E .text written beside 11
+      ∷ answered (E .card sheetH (0xAA ∷ []))  -- what fits of the listing written beside 11
       ∷ []
 
 nearExpected : List (List ℕ)
@@ -259,15 +262,25 @@ nearExpected =
     ∷ (11 ∷ 0xAA ∷ [])
     ∷ []
 
-near-computed : near (entriesBy testedOf) ≡ nearExpected
+near-computed : near (repliesBy testedOf) ≡ nearExpected
 unfolding near nearExpected nine record-of answered decodes twoCertificates certificateOf sheetH sheetE sheetS sheetB oneCertificate sheetOf cardEntry cardConditions definitions
 near-computed = refl
 
 near-hold : near documented ≡ nearExpected
-near-hold = ap near entries-tested ∙ near-computed
+near-hold = ap near replies-tested ∙ near-computed
+
+-- ---- rule 3 before 2026-03 refused both sheets with f = 19
+periodRule : ℕ → Certificate → Bool
+periodRule n c = coprime (period (c .f)) n
+
+before-hold : firstOf (conditionsWith periodRule short (oneCertificate 21 (1 ∷ []) 1 1 19 11 8))
+    ∷ firstOf (conditionsWith periodRule short (oneCertificate 21 (1 ∷ 3 ∷ 7 ∷ []) 14 5 19 7 15)) ∷ []
+    ≡ 9 ∷ 9 ∷ []
+unfolding periodRule period oneCertificate sheetOf definitions
+before-hold = refl
 
 -- ---- the listing: that of document 01, and rows beside which stand the misreadings that they catch
-module _ (E : Entries) where
+module _ (E : Replies) where
   listings : List (List ℕ)
   listings =
       E .text sheetH
@@ -300,9 +313,9 @@ listingsExpected =
     ∷ (114 ∷ 101 ∷ 102 ∷ 117 ∷ 115 ∷ 101 ∷ 100 ∷ 32 ∷ 49 ∷ 48 ∷ 10 ∷ [])
     ∷ []
 
-listings-computed : listings (entriesBy testedOf) ≡ listingsExpected
+listings-computed : listings (repliesBy testedOf) ≡ listingsExpected
 unfolding listings listingsExpected listingOf listingFor acceptedLines codeLine zerosLine generatorLine certificateLine radiusLine refusedLine decimal decimalIn twoCertificates certificateOf sheetH sheetS oneCertificate sheetOf definitions
 listings-computed = refl
 
 listings-hold : listings documented ≡ listingsExpected
-listings-hold = ap listings entries-tested ∙ listings-computed
+listings-hold = ap listings replies-tested ∙ listings-computed

@@ -3,15 +3,15 @@
 --   over d p           the polynomial with the coefficients p, over the field of the degree that d vouches for
 --   Elements s p       every coefficient is an element
 --   coefficient-lt, coefficient-above, coefficient-below      a number below 2^(s m) writes a polynomial of at most m coefficients
---   written            each polynomial of at most m coefficients is written by such a number
+--   number-of            each polynomial of at most m coefficients is number-of by such a number
 --   coefficients-zero  only 0 writes 0
 --   product-is, product-lt      the product is that of the field
 --   quotient-below, divisor-below     quotient and divisor are no longer than the dividend
 --   divides-sound, divides-complete      `dividesOver` says what Divides does
 --   common-sound, common-complete        `commonOver` says what CommonFactor does
-use mathlib.Core.Path.{_≡_, refl, sym, ap, ap₂, _∙_, subst, fun-ext}
+use mathlib.Core.Path.{_≡_, sym, ap, ap₂, _∙_, subst, fun-ext}
 use mathlib.Core.Logic.{_≢_, _⊎_, inl, inr}
-use mathlib.Core.Bool.{Bool, true, false, _&&_}
+use mathlib.Core.Bool.{true, _&&_}
 use Prim.Native.Nat.{ℕ, zero, suc, _+_, _-_, _*_, _/_, _%_, _^_, _≤_, _<_}
 use native.Mathlib.Nat.{mod-lt, div-one, mul-zero as mul-zeroℕ, mul-suc, div-div-eq-div-mul, mul-comm as mul-commℕ}
 use native.Mathlib.Nat.{div-eq-of-lt, zero-mod, div-lt-iff-lt-mul, mod-add-div, add-mul-div-right, add-mul-mod-self-right}
@@ -29,11 +29,11 @@ use Rattle.algebra.proofs.Series.{Ser, zero-at, mul-sum}
 use Rattle.algebra.proofs.Poly.{Below, Below·weaken, Below·zero, Below·mul, IsPoly, Polys, is-poly, le-or-lt}
 use Rattle.algebra.proofs.Divide.{Deg, Deg·mul, degree}
 use Rattle.field.specs.Search.{upTo, some}
-use Rattle.field.proofs.Search.{some-at, some-of, every-at, every-of, true-ne-false}
+use Rattle.field.proofs.Search.{and-both, some-at, some-of, every-at, every-of}
 use Rattle.field.specs.Field.{Degree, fieldMultiply}
 use Rattle.field.proofs.Xor.{⊕-lt}
 use Rattle.field.proofs.Remainder.{lt-of-high}
-use Rattle.field.proofs.Elements.{F, GF, isField, el, el-zero, el-add, el-mul, el-of, el-inj}
+use Rattle.field.proofs.Elements.{F, GF, isField, el, el-zero, el-null, el-add, el-mul, el-of, el-inj}
 use Rattle.field.proofs.Numbers.{multiply-lt}
 use Rattle.document.specs.Apart.{polynomial, fieldSum, productAt, dividesOver, commonOver}
 use Rattle.algebra.proofs.CommonFactor.{CommonFactor}
@@ -167,8 +167,8 @@ module _ {s : ℕ} (d : Degree s) where
   pub coefficient-below : (m N : ℕ) → N < 2 ^ (s * m) → Below (GF d) m (over (polynomial s N))
   coefficient-below m N h = record { at = λ k l. ap (el d) (coefficient-above s m N h k l) ∙ el-zero d }
 
-  pub written : (m : ℕ) (p : ℕ → F s) → Below (GF d) m p → (N : ℕ) × (N < 2 ^ (s * m)) × (over (polynomial s N) ≡ p)
-  written m p b = (N, number-lt s m coefficients (λ i. p i .1), fun-ext (λ k. go k (le-or-lt m k)))
+  pub number-of : (m : ℕ) (p : ℕ → F s) → Below (GF d) m p → (N : ℕ) × (N < 2 ^ (s * m)) × (over (polynomial s N) ≡ p)
+  number-of m p b = (N, number-lt s m coefficients (λ i. p i .1), fun-ext (λ k. go k (le-or-lt m k)))
     where
       coefficients : ℕ → ℕ
       coefficients i = p i .0
@@ -200,17 +200,17 @@ module _ {s : ℕ} (d : Degree s) where
     unfolding dividesOver
     divides-complete g w =
         let short′ : Below (GF d) m (over c ⊗ w .by) = subst (Below (GF d) m) (sym (w .eq)) short in
-        let n = written m (w .by) (quotient-below (isField d) g (w .by-in) short′) in
+        let n = number-of m (w .by) (quotient-below (isField d) g (w .by-in) short′) in
         some-of _ (2 ^ (s * m)) (n .0) (n .1)
         (every-of _ (m + m) (λ k l. eq-eqb (productAt s c (polynomial s (n .0)) k) (p k)
         (el-inj d (product-lt c (polynomial s (n .0)) k) (small k)
         (product-is c (polynomial s (n .0)) k ∙ ap (λ x. (over c ⊗ x) k) (n .2) ∙ ap (λ x. x k) (w .eq)))))
 
-  -- ---- commonOver factors
+  -- ---- common factors
   module _ {m : ℕ} (p q : ℕ → ℕ) (p-small : Elements s p) (q-small : Elements s q) (p-short : Below (GF d) m (over p))
       (q-short : Below (GF d) m (over q)) (p-ne : over p ≢ 0ₛ) where
     zero-of : (N i : ℕ) → over (polynomial s N) i ≡ 𝟘 → polynomial s N i ≡ 0
-    zero-of N i e = el-inj d (coefficient-lt s N i) (pow-pos s) (e ∙ sym (el-zero d))
+    zero-of N i e = el-null d (coefficient-lt s N i) e
 
     -- a number from 2^s on writes a polynomial of degree 1 or more
     positive : (N : ℕ) → N < 2 ^ (s * m) → 2 ^ s ≤ N → (k : ℕ) × Deg (GF d) (suc k) (over (polynomial s N))
@@ -247,10 +247,6 @@ module _ {s : ℕ} (d : Degree s) where
           left = divides-sound (polynomial s N) p p-small p-short (coefficient-below m N h) (t .0);
           right = divides-sound (polynomial s N) q q-small q-short (coefficient-below m N h) (t .1);
         }
-      where
-        and-both : (a b : Bool) → a && b ≡ true → (a ≡ true) × (b ≡ true)
-        and-both true b e = (refl, e)
-        and-both false b e = absurd (true-ne-false e refl)
 
     pub common-complete : CommonFactor (GF d) (over p) (over q) → commonOver s m p q ≡ true
     unfolding commonOver
@@ -258,7 +254,7 @@ module _ {s : ℕ} (d : Degree s) where
         let short : Below (GF d) m (f .factor) =
         divisor-below (isField d) (f .factor-deg) (f .left .by-in) (subst (λ x. x ≢ 0ₛ) (sym (f .left .eq)) p-ne)
         (subst (Below (GF d) m) (sym (f .left .eq)) p-short) in
-        let n = written m (f .factor) short in
+        let n = number-of m (f .factor) short in
         go (n .0) (n .1) (n .2)
       where
         go : (N : ℕ) → N < 2 ^ (s * m) → over (polynomial s N) ≡ f .factor

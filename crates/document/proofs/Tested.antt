@@ -3,12 +3,12 @@
 --   apart-is             `factorsApart` is `independent`: 2^u - 1 masks in place of a search through polynomials over the field
 --   apart-coprime        and it is true where the period of f is coprime to n, as rule 3 was before 2026-03
 --   modulus-of           the f of a certificate that meets rule 1
---   conditionsWith test kind sheet      the conditions of a sheet, with `test` in rule 3's place
+--   conditions-are       the conditions with rule 3 in its own place are a sheet's
 --   same-first           two tests that agree where rule 1 holds draw the same refusal
 --   but-nine-first       one that is true wherever another is draws what that draws, but where that is 9
---   testedOf             the conditions by `independent`; tested-first: they draw what the definition's conditions do
---   Entries, entriesBy, documented, entries-tested      so all entries answer the same: the tables of Cases.antt are computed by it
-use mathlib.Core.Path.{_≡_, refl, sym, ap, ap₂, _∙_, subst, fun-ext}
+--   testedRule, testedOf      the conditions by `independent`; tested-first: they draw what the definition's do
+--   Call, Replies, repliesBy, documented, replies-tested      so all entries answer the same: the tables of Cases.antt are computed by it
+use mathlib.Core.Path.{_≡_, refl, sym, ap, ap₂, _∙_, fun-ext}
 use mathlib.Core.Logic.{_≢_, _↔_}
 use mathlib.Core.Bool.{Bool, true, false, not}
 use mathlib.Core.List.{List, [], _∷_, _++_, flatMap, append-nil}
@@ -17,7 +17,6 @@ use native.Mathlib.Nat.{div-one}
 use native.Mathlib.Omega.{arith}
 use lib.ListN.{length, drop}
 use borrow.Author.Tests.{ltb-false}
-use Rattle.field.specs.Mask.{coefficient}
 use Rattle.field.specs.Field.{orderOfTwo}
 use Rattle.field.proofs.OrderOfTwo.{order-divides}
 use Rattle.binary.specs.Factor.{coprime, degree, period, Modulus}
@@ -25,20 +24,20 @@ use Rattle.binary.specs.Independence.{independent}
 use Rattle.binary.proofs.Meaning.{no-factor, period-divisor}
 use Rattle.binary.proofs.IndependentPowers.{denominator, independent-is}
 use Rattle.cyclic.proofs.Apart.{apart}
-use Rattle.cyclic.proofs.CyclicCode.{tableCode}
 use Rattle.cyclic.proofs.Independent.{apart-binary}
 use Rattle.document.specs.Answer.{Answer, Conditions, firstOf, settle}
 use Rattle.document.specs.Sheet.{Certificate, Stated, Kind, statedBy, wrongCodeLength}
 use Rattle.document.specs.Apart.{factorsApart}
-use Rattle.document.specs.Certificate.{rule1, rule2, rule3, rule4}
+use Rattle.document.specs.Certificate.{rule1, rule3, rule4}
 use Rattle.document.specs.Judge.{wrongDegree, sheetConditions, certificateConditions, judgeConditions, judgeEntry}
+use Rattle.document.specs.OtherTest.{CertificateTest, fourWith, conditionsWith}
 use Rattle.document.specs.Entry.{encodeConditions, encodeEntry, readConditions, readEntry, decodeConditions, decodeEntry}
 use Rattle.document.specs.Card.{listingFor, listingOf, cardConditions, cardEntry}
 use Rattle.document.specs.Short.{short, stated, refusalsOf, judgeOf, encodeOf, readOf, decodeOf, listing, cardOf}
 use Rattle.document.proofs.Theory.{Length, degree as degreeOf}
 use Rattle.document.proofs.Stated.{odd-to, odd-length, not-false}
 use Rattle.document.proofs.Meaning.{rule1-iff}
-use Rattle.document.proofs.ApartIs.{apart-defined}
+use Rattle.document.proofs.ApartIs.{bareCode, apart-defined}
 
 same-bool : (a b : Bool) → (a ≡ true) ↔ (b ≡ true) → a ≡ b
 same-bool true b w = sym (w .0 refl)
@@ -50,14 +49,14 @@ module _ {n : ℕ} (l : Length n) {f u : ℕ} (m : Modulus f u) where
   pub apart-is : factorsApart (orderOfTwo n) n f ≡ independent n u f
   apart-is =
       let a = apart-defined (degreeOf l) n (order-divides (l .odd)) f (denominator m) in
-      let b = apart-binary (tableCode (degreeOf l) (order-divides (l .odd)) (λ i. false) (λ i h t. absurd t)) (denominator m) in
+      let b = apart-binary (bareCode (degreeOf l) n (order-divides (l .odd))) (denominator m) in
       let c = independent-is n (denominator m) in
       same-bool (factorsApart (orderOfTwo n) n f) (independent n u f) (λ e. c .1 (b .0 (a .0 e)), λ e. a .1 (b .1 (c .0 e)))
 
 pub apart-coprime : {n : ℕ} → Length n → {f u : ℕ} → Modulus f u → coprime (period f) n ≡ true → factorsApart (orderOfTwo n) n f ≡ true
 apart-coprime {n} l {f} m e =
     apart-defined (degreeOf l) n (order-divides (l .odd)) f (denominator m) .1
-    (apart (tableCode (degreeOf l) (order-divides (l .odd)) (λ i. false) (λ i h t. absurd t)) f (period f) (period-divisor m)
+    (apart (bareCode (degreeOf l) n (order-divides (l .odd))) f (period f) (period-divisor m)
     (no-factor (period f) n (omega (arith, l .odd .least)) e))
 
 pub modulus-of : (most n : ℕ) (c : Certificate) → rule1 most n c ≡ true → Modulus (c .f) (degree (c .f))
@@ -66,17 +65,6 @@ modulus-of most n c e =
     record { is = refl; lo = w .4; hi = w .5; odd = sym (ap (λ (x : ℕ). x % 2) (div-one (c .f))) ∙ w .6 }
 
 -- ---- another test in its place
-abbrev pub Test : Type 0
-Test = ℕ → Certificate → Bool
-
-unfoldable pub fourWith : Test → ℕ → ℕ → List ℕ → Certificate → Conditions
-fourWith test most n reps c = (7, not (rule1 most n c)) ∷ (8, not (rule2 c)) ∷ (9, not (test n c)) ∷ (10, not (rule4 n reps c)) ∷ []
-
-unfoldable pub conditionsWith : Test → Kind → List ℕ → Conditions
-conditionsWith test kind sheet =
-    let x : Stated = statedBy kind sheet in
-    sheetConditions kind sheet ++ flatMap (fourWith test (kind .mostTerms) (x .n) (x .representatives)) (x .certificates)
-
 pub conditions-are : (kind : Kind) (sheet : List ℕ) → conditionsWith rule3 kind sheet ≡ judgeConditions kind sheet
 unfolding conditionsWith judgeConditions fourWith certificateConditions
 conditions-are kind sheet = refl
@@ -100,15 +88,15 @@ unfolding firstOf
 but-nine true c k l f h ne = absurd (ne refl)
 but-nine false c k l f h ne = ap (λ (x : Bool). firstOf ((9, x) ∷ l)) (f refl) ∙ h ne
 
-length-here : (kind : Kind) (sheet : List ℕ) → kind .mostPlaces ≤ 65535 → wrongCodeLength kind (statedBy kind sheet .n) ≡ false
+length-passed : (kind : Kind) (sheet : List ℕ) → kind .mostPlaces ≤ 65535 → wrongCodeLength kind (statedBy kind sheet .n) ≡ false
     → wrongDegree (statedBy kind sheet .n) ≡ false → Length (statedBy kind sheet .n)
 unfolding wrongDegree
-length-here kind sheet small e₂ e₃ = record {
+length-passed kind sheet small e₂ e₃ = record {
   odd = odd-length small (odd-to kind (statedBy kind sheet .n) e₂);
   most = ltb-false 12 (orderOfTwo (statedBy kind sheet .n)) e₃;
 }
 
-module _ (test other : Test) (most n : ℕ) (reps : List ℕ) where
+module _ (test other : CertificateTest) (most n : ℕ) (reps : List ℕ) where
   fours-same : ((c : Certificate) → rule1 most n c ≡ true → test n c ≡ other n c) → (own : Conditions) (l : List Certificate)
       → firstOf (flatMap (fourWith test most n reps) l ++ own) ≡ firstOf (flatMap (fourWith other most n reps) l ++ own)
   unfolding flatMap fourWith
@@ -131,7 +119,7 @@ module _ (test other : Test) (most n : ℕ) (reps : List ℕ) where
       (λ e₈. but-nine _ _ _ _ (λ e₉. ap not (wider c (not-false _ e₇) (not-false _ e₉)))
       (but-cong 10 _ _ _ (λ e₁₀. fours-but wider l)))) ne
 
-module _ (test other : Test) (kind : Kind) (room : kind .mostPlaces ≤ 65535) (sheet : List ℕ) where
+module _ (test other : CertificateTest) (kind : Kind) (room : kind .mostPlaces ≤ 65535) (sheet : List ℕ) where
   abbrev x : Stated
   x = statedBy kind sheet
 
@@ -145,7 +133,7 @@ module _ (test other : Test) (kind : Kind) (room : kind .mostPlaces ≤ 65535) (
       (λ e₃. first-cong 4 _ _ _
       (λ e₄. first-cong 5 _ _ _
       (λ e₅. first-cong 6 _ _ _
-      (λ e₆. fours-same test other (kind .mostTerms) (x .n) (x .representatives) (agree (length-here kind sheet room e₂ e₃)) own
+      (λ e₆. fours-same test other (kind .mostTerms) (x .n) (x .representatives) (agree (length-passed kind sheet room e₂ e₃)) own
       (x .certificates)))))))
 
   pub but-nine-first : (Length (x .n) → (c : Certificate) → rule1 (kind .mostTerms) (x .n) c ≡ true → test (x .n) c ≡ true → other (x .n) c ≡ true)
@@ -158,11 +146,11 @@ module _ (test other : Test) (kind : Kind) (room : kind .mostPlaces ≤ 65535) (
       (λ e₃. but-cong 4 _ _ _
       (λ e₄. but-cong 5 _ _ _
       (λ e₅. but-cong 6 _ _ _
-      (λ e₆. fours-but test other (kind .mostTerms) (x .n) (x .representatives) (wider (length-here kind sheet room e₂ e₃))
+      (λ e₆. fours-but test other (kind .mostTerms) (x .n) (x .representatives) (wider (length-passed kind sheet room e₂ e₃))
       (x .certificates)))))))
 
 -- ---- the test that can be computed
-abbrev pub testedRule : Test
+abbrev pub testedRule : CertificateTest
 testedRule n c = independent n (degree (c .f)) (c .f)
 
 abbrev pub testedOf : List ℕ → Conditions
@@ -178,7 +166,7 @@ tested-first sheet own =
 abbrev pub Call : Type 0
 Call = List ℕ → List ℕ → List ℕ → Answer × List ℕ
 
-pub record Entries : Type 0 where
+pub record Replies : Type 0 where
   pub judge : List ℕ → Answer
   pub encode : Call
   pub read : Call
@@ -186,8 +174,8 @@ pub record Entries : Type 0 where
   pub text : List ℕ → List ℕ
   pub card : List ℕ → List ℕ → Answer × List ℕ
 
-abbrev pub entriesBy : (List ℕ → Conditions) → Entries
-entriesBy R = record {
+abbrev pub repliesBy : (List ℕ → Conditions) → Replies
+repliesBy R = record {
   judge = λ sheet. judgeEntry (R sheet) (stated sheet);
   encode = λ sheet message out. encodeEntry (R sheet) (stated sheet) message out;
   read = λ sheet word out. readEntry (R sheet) (stated sheet) word out;
@@ -196,37 +184,37 @@ entriesBy R = record {
   card = λ sheet out. cardEntry 1024 (R sheet) (stated sheet) out;
 }
 
-settled : {r q : ℕ} (v w old : List ℕ) → r ≡ q → settle r v w old ≡ settle q v w old
-settled v w old e = ap (λ (k : ℕ). settle k v w old) e
+settle-same : {r q : ℕ} (v w old : List ℕ) → r ≡ q → settle r v w old ≡ settle q v w old
+settle-same v w old e = ap (λ (k : ℕ). settle k v w old) e
 
 tested-sheet : (sheet : List ℕ) → firstOf (refusalsOf sheet) ≡ firstOf (testedOf sheet)
 tested-sheet sheet = ap firstOf (sym (append-nil (refusalsOf sheet))) ∙ tested-first sheet [] ∙ ap firstOf (append-nil (testedOf sheet))
 
 -- the entries as they are defined
-abbrev pub documented : Entries
+abbrev pub documented : Replies
 documented = record { judge = judgeOf; encode = encodeOf; read = readOf; decode = decodeOf; text = listing; card = cardOf }
 
 -- an entry sees no more of a sheet's conditions than which is the first that holds, of them and its own
-pub entries-tested : documented ≡ entriesBy testedOf
+pub replies-tested : documented ≡ repliesBy testedOf
 unfolding judgeEntry encodeEntry readEntry decodeEntry listingOf cardEntry
-entries-tested =
+replies-tested =
     ap₂ (λ j e. made j e (R .read) (R .decode) (R .text) (R .card))
-    (fun-ext (λ sheet. ap (λ a. a .0) (settled _ _ _ (tested-sheet sheet))))
-    (fun-ext (λ sheet. fun-ext (λ message. fun-ext (λ out. settled _ _ _ (tested-first sheet (encodeConditions (stated sheet) message out))))))
+    (fun-ext (λ sheet. ap (λ a. a .0) (settle-same _ _ _ (tested-sheet sheet))))
+    (fun-ext (λ sheet. fun-ext (λ message. fun-ext (λ out. settle-same _ _ _ (tested-first sheet (encodeConditions (stated sheet) message out))))))
     ∙ ap₂ (λ r d. made (T .judge) (T .encode) r d (R .text) (R .card))
-    (fun-ext (λ sheet. fun-ext (λ word. fun-ext (λ out. settled _ _ _ (tested-first sheet (readConditions (stated sheet) word out))))))
-    (fun-ext (λ sheet. fun-ext (λ word. fun-ext (λ out. settled _ _ _ (tested-first sheet (decodeConditions (stated sheet) word out))))))
+    (fun-ext (λ sheet. fun-ext (λ word. fun-ext (λ out. settle-same _ _ _ (tested-first sheet (readConditions (stated sheet) word out))))))
+    (fun-ext (λ sheet. fun-ext (λ word. fun-ext (λ out. settle-same _ _ _ (tested-first sheet (decodeConditions (stated sheet) word out))))))
     ∙ ap₂ (λ t c. made (T .judge) (T .encode) (T .read) (T .decode) t c) (fun-ext text-same)
     (fun-ext (λ sheet. fun-ext (λ out. ap
     (λ (l : List ℕ). settle (firstOf (cardConditions 1024 out)) (length l ∷ []) (l ++ drop (length l) out) out) (text-same sheet))))
   where
-    R : Entries
+    R : Replies
     R = documented
 
-    T : Entries
-    T = entriesBy testedOf
+    T : Replies
+    T = repliesBy testedOf
 
-    made : (List ℕ → Answer) → Call → Call → Call → (List ℕ → List ℕ) → (List ℕ → List ℕ → Answer × List ℕ) → Entries
+    made : (List ℕ → Answer) → Call → Call → Call → (List ℕ → List ℕ) → (List ℕ → List ℕ → Answer × List ℕ) → Replies
     made j e r d t c = record { judge = j; encode = e; read = r; decode = d; text = t; card = c }
 
     text-same : (sheet : List ℕ) → listingOf (refusalsOf sheet) (stated sheet) ≡ listingOf (testedOf sheet) (stated sheet)

@@ -8,9 +8,9 @@
 --   dividesOver s m d p     d times some polynomial of at most m coefficients is p, where p and d have at most m as well
 --   commonOver s m p q      some polynomial of degree 1 or more, of at most m coefficients, divides both p and q
 --   substituted s a f       f(a x), for a mask f
---   turned s n f i          f(α^i x)
---   pairApart s n f i j     f(α^i x) and f(α^j x) have no common factor, or are the same one
---   factorsApart s n f      so for all i and j below n
+--   atRoot s n f i          f(α^i x)
+--   pairApart s n f i j     f(α^i x) and f(α^j x) have no common factor, or i is j
+--   factorsApart s n f      so for all i and j below n. Rule 1 asks first that f have constant term 1
 -- These are searches through all polynomials that could divide both, and are never run: apart-is (proofs/Tested.antt) says what is.
 use mathlib.Core.Bool.{Bool, not, _&&_, _||_}
 use Prim.Native.Nat.{ℕ, zero, suc, _+_, _-_, _*_, _/_, _%_, _^_}
@@ -43,11 +43,11 @@ commonOver s m p q =
 unfoldable pub substituted : ℕ → ℕ → ℕ → ℕ → ℕ
 substituted s a f i = coefficient i f * fieldPower s a i
 
-abbrev pub turned : ℕ → ℕ → ℕ → ℕ → ℕ → ℕ
-turned s n f i = substituted s (fieldPower s (α s n) i) f
+abbrev pub atRoot : ℕ → ℕ → ℕ → ℕ → ℕ → ℕ
+atRoot s n f i = substituted s (fieldPower s (α s n) i) f
 
 unfoldable pub pairApart : ℕ → ℕ → ℕ → ℕ → ℕ → Bool
-pairApart s n f i j = eqb i j || not (commonOver s (size f) (turned s n f i) (turned s n f j))
+pairApart s n f i j = eqb i j || not (commonOver s (size f) (atRoot s n f i) (atRoot s n f j))
 
 -- "f(α^i·x) and f(α^j·x) .. have no common factor for different i and j below n"
 unfoldable pub factorsApart : ℕ → ℕ → ℕ → Bool

@@ -6,6 +6,7 @@ pub mod Generator
 pub mod Apart
 pub mod Certificate
 pub mod Judge
+pub mod OtherTest
 pub mod Entry
 pub mod Card
 pub mod Short

@@ -2,7 +2,7 @@
 --
 --   F s              the elements: the numbers below 2^s; F-eq: equal when the numbers are
 --   GF d             the ring of the degree that d : Degree s vouches for; GF-add, GF-mul, GF-zero, GF-one: what it does
---   el d a           the element that a number leaves; el-add, el-mul, el-zero, el-one, el-value, el-of, el-inj
+--   el d a           the element that a number leaves; el-add, el-mul, el-zero, el-one, el-value, el-of, el-inj, el-null
 --   gen d            ω; gen-order: it has order 2^s - 1
 --   log              every nonzero element is a power of ω
 --   isField          every nonzero element has an inverse, its power 2^s - 2
@@ -156,6 +156,9 @@ module _ {s : ℕ} (d : Degree s) where
 
   pub el-one : el 1 ≡ GF .𝟙
   el-one = F-eq s (el-value (pow-mono pos) ∙ sym GF-one)
+
+  pub el-null : {a : ℕ} → a < 2 ^ s → el a ≡ GF .𝟘 → a ≡ 0
+  el-null h e = el-inj h (pow-pos s) (e ∙ sym el-zero)
 
   pub el-add : (a b : ℕ) → el (a ⊕ b) ≡ GF .add (el a) (el b)
   unfolding el

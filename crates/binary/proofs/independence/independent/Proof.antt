@@ -1,4 +1,4 @@
--- `binary::independence::independent` meets its contract: what is left of the rows after so many turns is free exactly where all of them are.
+-- `binary::independence::independent` meets its contract: what is left of the rows after each turn is free exactly where all are.
 use native.Mathlib.Omega.{arith}
 use Prim.Native.Nat.{_-_}
 use Rattle.binary.specs.Factor.{Modulus}

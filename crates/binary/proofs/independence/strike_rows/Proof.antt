@@ -10,7 +10,7 @@ shr-ones : tie.Need-shr-ones
 shr-ones c = search needs
 
 mul-result : tie.Need-mul-result
-mul-result c = let w = c .args .rows in omega (arith, ones-room (w / 2 ^ c .args .t) (w % 256) (omega arith))
+mul-result c = let w = c .args .rows in omega (arith, ones-room (w / 2 ^ c .args .top) (w % 256) (omega arith))
 
 returns : tie.Need-returns
 returns c = rows-struck _ _ (c .pre)

@@ -32,8 +32,8 @@ returns-2 c = (
 degree-requires : tie.Need-degree-requires
 degree-requires c κs = search needs
 
-common-factors-requires : tie.Need-common-factors-requires
-common-factors-requires c κs = (
+factors-shared-requires : tie.Need-factors-shared-requires
+factors-shared-requires c κs = (
   modulus-of (ranged _ _ _ (sym (c .before .before .before .before .before .before .wrong-range .ensures) ∙ c .before .before .before .before .before .if1 .left)) (c .degree .ensures),
   c .before .before .before .before .before .before .before .before .pre .length-of,
 )
@@ -41,7 +41,7 @@ common-factors-requires c κs = (
 returns-3 : tie.Need-returns-3
 returns-3 c = (
   check-9 _ _ _ _ (sym (c .before .before .before .before .before .before .before .if1 .left) ∙ c .before .before .before .before .before .before .before .before .wrong-range .ensures) (sym (c .before .before .before .before .common .ensures) ∙ c .before .before .before .if2 .left)
-      (sym (c .if3 .taken) ∙ c .before .common-factors .ensures),
+      (sym (c .if3 .taken) ∙ c .before .factors-shared .ensures),
   omega arith,
 )
 
@@ -52,7 +52,7 @@ wrong-terms-requires c κs = let p = c .before .before .before .before .before .
 returns-4 : tie.Need-returns-4
 returns-4 c = (
   check-10 _ _ _ _ (sym (c .before .before .before .before .before .before .before .before .before .if1 .left) ∙ c .before .before .before .before .before .before .before .before .before .before .wrong-range .ensures) (sym (c .before .before .before .before .before .before .common .ensures) ∙ c .before .before .before .before .before .if2 .left)
-      (sym (c .before .before .if3 .left) ∙ c .before .before .before .common-factors .ensures) (rw (c .if4 .taken) at (c .before .wrong-terms .ensures)),
+      (sym (c .before .before .if3 .left) ∙ c .before .before .before .factors-shared .ensures) (rw (c .if4 .taken) at (c .before .wrong-terms .ensures)),
   omega arith,
 )
 
@@ -70,7 +70,7 @@ distance-requires c κs = let r = ranged _ _ _ (sym (c .before .before .before .
 returns-5 : tie.Need-returns-5
 returns-5 c = (
   check-pass _ _ _ _ (sym (c .before .before .before .before .before .before .before .before .before .before .before .before .if1 .left) ∙ c .before .before .before .before .before .before .before .before .before .before .before .before .before .wrong-range .ensures) (sym (c .before .before .before .before .before .before .before .before .before .common .ensures) ∙ c .before .before .before .before .before .before .before .before .if2 .left)
-      (sym (c .before .before .before .before .before .if3 .left) ∙ c .before .before .before .before .before .before .common-factors .ensures) (rw (c .before .before .before .if4 .left) at (c .before .before .before .before .wrong-terms .ensures))
+      (sym (c .before .before .before .before .before .if3 .left) ∙ c .before .before .before .before .before .before .factors-shared .ensures) (rw (c .before .before .before .if4 .left) at (c .before .before .before .before .wrong-terms .ensures))
       (distance-is _ (c .before .before .before .before .before .before .before .degree .ensures) (c .before .degree2 .ensures) (c .distance .ensures .0)),
   omega (arith, c .distance .ensures .1, L-within _ _ _ (sym (c .before .before .before .before .before .before .before .before .before .before .before .before .before .wrong-range .ensures) ∙ c .before .before .before .before .before .before .before .before .before .before .before .before .if1 .left)),
 )
@@ -86,7 +86,7 @@ check-spec =
     common-requires
     returns-2
     degree-requires
-    common-factors-requires
+    factors-shared-requires
     returns-3
     wrong-terms-requires
     returns-4

@@ -1,4 +1,4 @@
--- `certificate::rules::common_factors` meets its contract: by the period where that is coprime to n, elsewhere by the powers of x^n.
+-- `certificate::rules::factors_shared` meets its contract: by the period where that is coprime to n, elsewhere by the powers of x^n.
 use mathlib.Core.Path.{sym, ap, _∙_}
 use mathlib.Core.Bool.{not}
 use Prim.Native.Nat.{ℕ}
@@ -6,8 +6,8 @@ use native.Mathlib.Omega.{arith}
 use borrow.Author.Needs.{needs}
 use Rattle.binary.specs.Factor.{coprime}
 use Rattle.document.proofs.Tested.{apart-is, apart-coprime}
-use Rattle.certificate.proofs.rules.common_factors.Statement.{statement}
-use Rattle.certificate.proofs.rules.common_factors.Tie as tie
+use Rattle.certificate.proofs.rules.factors_shared.Statement.{statement}
+use Rattle.certificate.proofs.rules.factors_shared.Tie as tie
 
 period-requires : tie.Need-period-requires
 period-requires c κs = search needs
@@ -27,6 +27,6 @@ independent-requires c κs = let p = c .before .before .before .pre in (p .0, om
 returns-2 : tie.Need-returns-2
 returns-2 c = let p = c .before .before .before .before .pre in ap not (c .independent .ensures ∙ sym (apart-is (p .1) (p .0)))
 
-pub common-factors-spec : {M : Type 1} → statement M
-common-factors-spec =
+pub factors-shared-spec : {M : Type 1} → statement M
+factors-shared-spec =
     tie.close (tie.spec period-requires coprime-requires returns independent-requires returns-2)

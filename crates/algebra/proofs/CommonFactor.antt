@@ -1,8 +1,8 @@
 -- Common factors of polynomials over a field, by Euclid.
 --
 --   CommonFactor R p q      some polynomial of degree 1 or more divides both p and q
---   PolyGcd R p q               a common divisor that is a combination of both
---   poly-gcd                     there is one: Euclid's algorithm
+--   PolyGcd R p q           a common divisor that is a combination of both
+--   poly-gcd                there is one: Euclid's algorithm
 --   coprime-none            coprime polynomials have no common factor
 --   coprime-or              two polynomials, the first not 0, are coprime or have a common factor
 --   no-common-iff           so `coprime` (Bezout) and `no common factor` are the same

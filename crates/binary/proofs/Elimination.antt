@@ -1,6 +1,6 @@
 -- Rows of masks, and whether they are linearly independent, by elimination.
 --
---   rowSum rows k P      the sum of the rows i below k for which P has a one
+--   rowSum rows k P           the sum of the rows i below k for which P has a one
 --   row-sum-ext, row-sum-zero      it is of the rows below k alone, and 0 for P = 0
 --   Free rows k               no P but 0 makes it 0
 --   free-none, free-zero, free-ext      of no rows; not where row 0 is 0; it is of the rows below k alone

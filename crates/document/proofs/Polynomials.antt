@@ -3,7 +3,7 @@
 --   over d p           the polynomial with the coefficients p, over the field of the degree that d vouches for
 --   Elements s p       every coefficient is an element
 --   coefficient-lt, coefficient-above, coefficient-below      a number below 2^(s m) writes a polynomial of at most m coefficients
---   number-of            each polynomial of at most m coefficients is number-of by such a number
+--   number-of          the number that writes a polynomial of at most m coefficients
 --   coefficients-zero  only 0 writes 0
 --   product-is, product-lt      the product is that of the field
 --   quotient-below, divisor-below     quotient and divisor are no longer than the dividend

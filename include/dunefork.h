@@ -122,9 +122,9 @@ int32_t dunefork_decode(const uint8_t *sheet, size_t sheet_len, const uint8_t *w
 
 /* Tells what a sheet amounts to: its listing, the program linkcard's text, into out, exactly DUNEFORK_CARD_BYTES bytes. The lines
  * are "code N K S", S being the field's degree, "zeros ..", "generator ..", for each certificate C "cert C terms L distance D", and
- * "radius T from cert C"; or "refused R" alone, for a sheet that the other calls refuse with -R. Returns the text's length in bytes;
- * there is no 0 at its end, and what stood after it in out is as it was. Refused is only an out of another length, with
- * DUNEFORK_BUFFER_LENGTH. */
+ * "radius T from cert C" for the certificate at work, the one with the largest D, then the smallest L, then the first; or "refused R"
+ * alone, for a sheet that the other calls refuse with -R. Returns the text's length in bytes; there is no 0 at its end, and what stood
+ * after it in out is as it was. Refused is only an out of another length, with DUNEFORK_BUFFER_LENGTH. */
 int32_t dunefork_card(const uint8_t *sheet, size_t sheet_len, uint8_t *out, size_t out_len);
 
 #ifdef __cplusplus

@@ -9,7 +9,7 @@ from functools import lru_cache
 from itertools import combinations
 from math import comb, gcd
 
-from entry_answers import (SHEETS, answer, bits, certificate, common_factor, coset, encoded, generator, known, parts, period, remainder,
+from entry_answers import (ALL_BUT_0, BCH, SHEETS, answer, bits, certificate, common_factor, coset, encoded, generator, known, parts, period, remainder,
                            series, sheet, word_bytes)
 
 LENGTHS = [n for n in range(3, 128, 2) if len(coset(1, n)) <= 12]
@@ -187,8 +187,6 @@ H = sheet(7, [1], certificate(1, 1, 3, 1, 2))
 E = sheet(7, [0, 1], certificate(0, 1, 3, 1, 3))
 S = sheet(17, [1], certificate(13, 1, 7, 3, 9))
 B = sheet(15, [1, 3], certificate(1, 1, 3, 1, 4))
-BCH = [1, 3, 5, 7, 9, 11, 13, 15, 19]
-ALL_BUT_0 = [1, 3, 5, 7, 9, 11, 13, 15, 19, 21, 23, 27, 29, 31, 43, 47, 55, 63]
 
 
 # Bounds of document 001's tables: the length, what D holds, a certificate and d. Where a table's h does not fit its set, the set
@@ -233,6 +231,9 @@ def chosen_sheets():
     yield sheet(127, ALL_BUT_0[:16], certificate(1, 1, 3, 1, 54))
     yield sheet(127, ALL_BUT_0, certificate(1, 1, 3, 1, 126))
     yield sheet(127, ALL_BUT_0, longest_of_all())
+    # two certificates of one d, the long one first
+    yield sheet(127, ALL_BUT_0, certificate(1, 1, 259, 128, 1015), certificate(1, 1, 3, 1, 126))
+    yield sheet(127, BCH, certificate(1, 16, 257, 1, 160), certificate(1, 1, 3, 1, 20))
 
 
 def longest_of_all():
@@ -263,6 +264,7 @@ def whole_sheets(draw):
     yield sheet(15, [1], certificate(2, 2, 3, 1, 2))
     yield sheet(15, [1, 3, 5], certificate(2, 2, 3, 1, 2), certificate(1, 1, 3, 1, 6))
     yield sheet(15, [0, 1, 3], certificate(4, 8, 3, 1, 2), certificate(0, 1, 3, 1, 5))
+    yield sheet(15, [0, 1, 3], certificate(0, 1, 5, 1, 9), certificate(0, 1, 3, 1, 5), certificate(1, 1, 3, 1, 4))
 
 
 # ---- calls: the kind, 3 for a word and 4 for all, what is handed over, how long the buffer is or the words are, and the answer

@@ -5,6 +5,7 @@
 # and what encode and read reply and leave in the buffer. Polynomials over two elements are sets of exponents, words and messages
 # masks over their places: word_bytes and message_bytes say how those lie in bytes, here and for the scripts that go by this one.
 from functools import lru_cache
+from itertools import permutations
 from math import gcd
 
 
@@ -104,17 +105,16 @@ def answer(sheet):
         zeros |= coset(r, n)
     if len(zeros) == n:
         return 'refused 6'
-    best = None
+    passed = []
     for c in range(certificates):
         at = 10 + count + 8 * c
         number, d, terms = certificate_answer(n, zeros, sheet[at:at + 8])
         if number:
             return 'refused %d' % number
-        t = (d - 1) // 2
-        if best is None or t > best[2]:
-            best = c, d, t, terms
-    working, d, t, terms = best
-    return 'accepted %d %d %d %d %d %d %d' % (n, n - len(zeros), s, working, d, t, terms)
+        passed.append((-d, terms, c))
+    # request 2026-04: "the largest d, then the fewest terms, then the earliest"
+    d, terms, working = min(passed)
+    return 'accepted %d %d %d %d %d %d %d' % (n, n - len(zeros), s, working, -d, (-d - 1) // 2, terms)
 
 
 def certificate(b, z, f, h, terms, zero=0):
@@ -129,6 +129,11 @@ def sheet(n, representatives, *certificates):
 
 def changed(base, place, value):
     return base[:place] + [value] + base[place + 1:]
+
+
+# representatives of length 127: those of the bench's code, and all but 0
+BCH = [1, 3, 5, 7, 9, 11, 13, 15, 19]
+ALL_BUT_0 = [1, 3, 5, 7, 9, 11, 13, 15, 19, 21, 23, 27, 29, 31, 43, 47, 55, 63]
 
 
 def known():
@@ -167,7 +172,7 @@ def known():
         yield sheet(n, [], certificate(0, 1, 19, 8, 3))
     # the distance is 1 where L is at most v
     yield sheet(17, [], certificate(0, 1, 11, 4, 1))
-    bch = [1, 3, 5, 7, 9, 11, 13, 15, 19, 21]
+    bch = BCH + [21]
     yield sheet(127, bch, certificate(1, 1, 3, 1, 22))
     yield sheet(127, bch, certificate(1, 1, 3, 1, 20), certificate(2, 2, 3, 1, 21), certificate(1, 1, 3, 1, 22), certificate(4, 4, 3, 1, 22))
     yield sheet(127, bch, certificate(1, 1, 3, 1, 22), certificate(1, 1, 3, 1, 23), certificate(1, 1, 3, 1, 0))
@@ -203,6 +208,20 @@ def wider():
     # 85 has no such f: these share a factor with it, and are refused
     for f in (19, 25, 31, 285):
         yield sheet(85, [1], certificate(1, 1, f, 1, 1))
+
+
+# Sheets of request 2026-04: of one length and set, certificates of which several have one d, or one t; in every order.
+SHORTER = (
+    (7, (1,), (1, 1, 7, 1, 4), (1, 1, 3, 1, 2), (1, 3, 3, 1, 2)), (7, (0, 1), (0, 1, 5, 1, 6), (0, 1, 3, 1, 3), (1, 1, 3, 1, 2)),
+    (15, (0, 1, 3), (0, 1, 5, 1, 9), (0, 1, 3, 1, 5), (1, 1, 3, 1, 4), (0, 2, 3, 1, 5)), (17, (1,), (13, 3, 3, 1, 3), (13, 1, 7, 3, 9)),
+    (127, ALL_BUT_0, (1, 1, 259, 128, 1015), (1, 1, 3, 1, 126)), (127, BCH, (1, 16, 257, 1, 160), (1, 1, 3, 1, 20)))
+
+
+def shorter():
+    for n, representatives, *certificates in SHORTER:
+        made = [sheet(n, representatives, *[certificate(*c) for c in order]) for order in permutations(certificates)]
+        assert all(answer(s).startswith('accepted') for s in made)
+        yield made
 
 
 def drawn(count):
@@ -349,12 +368,16 @@ def byte_examples():
     yield 2, b'\x80', 1, 'read refused 14 aa'
 
 
-SHEETS = list(known()) + list(drawn(400)) + list(wider())
+SHEETS = list(known()) + list(drawn(400)) + list(wider()) + [made[0] for made in shorter()]
+ORDERS = [s for made in shorter() for s in made[1:]]
 
 
 def entry_calls():
     for s in SHEETS:
         for call in calls(s):
             yield s, *call
+    for s in ORDERS:
+        # judge and card; the code is that of another order
+        yield s, *next(calls(s))
     for call in byte_examples():
         yield SHEETS[0], *call

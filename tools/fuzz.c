@@ -1,9 +1,9 @@
-/* Random calls of dunefork_encode, dunefork_read and dunefork_decode, each held to the reference of fuzz_reference.h: the reply,
- * every byte of the buffer, and that no byte beside the lent ones has changed. tools/fuzz builds and runs it.
+/* Random calls of dunefork_encode, dunefork_read, dunefork_decode and dunefork_card, each held to the reference of fuzz_reference.h and
+ * fuzz_listing.h: the reply, every byte of the buffer, and that no byte beside the lent ones has changed. tools/fuzz builds and runs it.
  *
  *     fuzz seed calls [fault]
  *
- * A seed gives the same calls everywhere, and the checksum printed is that of all replies and buffers. With a fault, 1 to 11, a
+ * A seed gives the same calls everywhere, and the checksum printed is that of all replies and buffers. With a fault, 1 to 13, a
  * wrong library is played, and the run must end in a difference: that shows that the harness sees such a thing.
  *
  * Every buffer has its exact length. Three in four lie at the end or the start of a page between two pages that cannot be touched,
@@ -13,13 +13,14 @@
 #define _GNU_SOURCE
 #include "dunefork.h"
 #include "fuzz_reference.h"
+#include "fuzz_listing.h"
 #include <signal.h>
 #include <sys/mman.h>
 #include <time.h>
 #include <unistd.h>
 
-enum { PAGE = 4096, SHEET = 0, INPUT = 1, OUTPUT = 2, ENCODE = 0, READ = 1, DECODE = 2 };
-static const char *const entry_name[] = {"encode", "read", "decode"};
+enum { PAGE = 4096, SHEET = 0, INPUT = 1, OUTPUT = 2, ENCODE = 0, READ = 1, DECODE = 2, CARD = 3 };
+static const char *const entry_name[] = {"encode", "read", "decode", "card"};
 
 /* ---- the draw. No expression draws twice in an order that C leaves open: a seed gives the same calls with every compiler. */
 static uint64_t state;
@@ -120,7 +121,7 @@ static struct {
 
 static int fault;
 static uint64_t checksum = 14695981039346656037u, calls, refused_sheets, accepted_sheets;
-static uint64_t count_refused[3][15], count_done[3], count_changed[PLACES + 1];
+static uint64_t count_refused[4][15], count_done[4], count_changed[PLACES + 1], count_decided[3];
 enum { BY_SEARCH, BY_BOTH, BY_MAKING, BY_PROPERTY_CHANGED, BY_PROPERTY_13, HOW };
 static const char *const how_name[HOW] = {
     "held to a search", "held to two searches", "known from how the word was made",
@@ -188,7 +189,7 @@ static void turn_bytes_round(uint8_t *bytes, size_t length) {
 
 /* Whether a word of the right length has a 1 where the spare bits would be if it were a message. */
 static int message_spare_in_word(int32_t reply) {
-    return now.entry != ENCODE && !code.refusal && reply != -11 && spare_in_message(lent[INPUT].at, code.n);
+    return (now.entry == READ || now.entry == DECODE) && !code.refusal && reply != -11 && spare_in_message(lent[INPUT].at, code.n);
 }
 
 /* What a wrong library would do, for runs that must fail. */
@@ -205,9 +206,11 @@ static int32_t meddled(int32_t reply) {
     case 6: if (lent[INPUT].length) lent[INPUT].at[0] ^= 1; break;                /* the input written to */
     case 7: if (reply == -13 && length) return memcpy(out, lent[INPUT].at, length), 0; break; /* the word as received */
     case 8: if (reply == -12) return -11; break;                                  /* another number */
-    case 9: if (reply >= 0 && now.entry != READ) turn_bytes_round(out, length); break;  /* a word laid out as a message */
+    case 9: if (reply >= 0 && now.entry != READ && now.entry != CARD) turn_bytes_round(out, length); break;  /* a word laid out as a message */
     case 10: if (reply >= 0 && now.entry == READ) turn_bytes_round(out, length); break; /* a message laid out as a word */
     case 11: if (message_spare_in_word(reply)) return -12; break;                 /* a word's spare bits sought as a message's */
+    case 12: if (now.entry == CARD && reply > 12) out[reply - 2] = '0'; break;    /* the first certificate named as the working one */
+    case 13: if (now.entry == CARD && reply >= 0) return reply + 1; break;        /* a length one too large */
     }
     return reply;
 }
@@ -220,8 +223,10 @@ static int32_t called(void) {
         reply = dunefork_encode(s->at, s->length, i->at, i->length, o->at, o->length);
     else if (now.entry == READ)
         reply = dunefork_read(s->at, s->length, i->at, i->length, o->at, o->length);
-    else
+    else if (now.entry == DECODE)
         reply = dunefork_decode(s->at, s->length, i->at, i->length, o->at, o->length);
+    else
+        reply = dunefork_card(s->at, s->length, o->at, o->length);
     library_seconds += seconds() - start;
     return fault ? meddled(reply) : reply;
 }
@@ -252,11 +257,33 @@ static int right_decoding(word_t word, word_t made, int weight, word_t *codeword
     }
     if (!distance_known) {
         distance_known = run_bound(&code);
-        if (code.proved > distance_known) distance_known = code.proved;
+        if (code.d > distance_known) distance_known = code.d;
     }
     if (weight + code.t >= distance_known) return -1;
     count_how[BY_MAKING]++;
     return 0;
+}
+
+/* After a call: everything held to what is right. */
+static void compare(int32_t reply, int32_t expected, const uint8_t *input, const uint8_t *after, size_t output_length) {
+    int right_output = given_back(OUTPUT, after), right_input = given_back(INPUT, input), right_sheet = given_back(SHEET, sheet);
+    if (reply != expected) {
+        char text[80];
+        snprintf(text, sizeof text, "replied %d, and %d is right", (int)reply, (int)expected);
+        differ(text);
+    }
+    if (!right_output) differ(reply < 0 ? "the output, or a byte beside it, has changed" : "wrong bytes in the output or beside it");
+    if (!right_input) differ("the input, or a byte beside it, has changed");
+    if (!right_sheet) differ("the sheet, or a byte beside it, has changed");
+
+    checksum = (checksum ^ (uint32_t)reply) * 1099511628211u;
+    for (size_t i = 0; i < output_length; i++) checksum = (checksum ^ after[i]) * 1099511628211u;
+    if (reply < 0) {
+        count_refused[now.entry][-reply]++;
+    } else {
+        count_done[now.entry]++;
+        if (now.entry == DECODE) count_changed[reply]++;
+    }
 }
 
 /* Makes one call and holds everything to the reference. */
@@ -307,24 +334,24 @@ static void try(int entry, const uint8_t *input, size_t input_length, size_t out
         expected = -13;
         count_how[BY_PROPERTY_13]++;
     }
-    int right_output = given_back(OUTPUT, after), right_input = given_back(INPUT, input), right_sheet = given_back(SHEET, sheet);
-    if (reply != expected) {
-        char text[80];
-        snprintf(text, sizeof text, "replied %d, and %d is right", (int)reply, (int)expected);
-        differ(text);
-    }
-    if (!right_output) differ(reply < 0 ? "the output, or a byte beside it, has changed" : "wrong bytes in the output or beside it");
-    if (!right_input) differ("the input, or a byte beside it, has changed");
-    if (!right_sheet) differ("the sheet, or a byte beside it, has changed");
+    compare(reply, expected, input, after, output_length);
+}
 
-    checksum = (checksum ^ (uint32_t)reply) * 1099511628211u;
-    for (size_t i = 0; i < output_length; i++) checksum = (checksum ^ after[i]) * 1099511628211u;
-    if (reply < 0) {
-        count_refused[entry][-reply]++;
-    } else {
-        count_done[entry]++;
-        if (entry == DECODE) count_changed[reply]++;
-    }
+/* The listing of the sheet, in a buffer of its length or of another. */
+static void try_card(size_t length) {
+    static uint8_t before[PAGE], after[PAGE];
+    char text[1100];
+    now.entry = CARD, now.input = after, now.input_length = 0, now.output_length = length;
+    for (size_t i = 0; i < length; i++) before[i] = (uint8_t)draw();
+    memcpy(after, before, length);
+    int32_t expected = length == DUNEFORK_CARD_BYTES ? listing(&code, sheet, text) : -11;
+    if (expected > 0) memcpy(after, text, (size_t)expected);
+    lend(SHEET, sheet, sheet_length);
+    lend(INPUT, after, 0);
+    lend(OUTPUT, before, length);
+    int32_t reply = called();
+    calls++;
+    compare(reply, expected, after, after, length);
 }
 
 /* ---- sheets */
@@ -390,6 +417,13 @@ static void known_sheet(void) {
     put_sheet(known[which].n, zero, &known[which].c, 1);
 }
 
+/* For c, of at most `most` terms, as many as give it the distance of another, and any such number; or `most` where these are too few. */
+static int terms_of_one_distance(const struct certificate *other, const struct certificate *c, int most) {
+    int d = distance_of(other), u = degree(c->f), least = degree(c->h) + (d - 2) * u + 1;
+    int terms = d < 2 ? 1 : least + below(u);
+    return terms > most ? most : terms;
+}
+
 /* A sheet that is accepted: D drawn, or what a drawn certificate asks for, and certificates as long as D allows, or shorter. */
 static void good_sheet(void) {
     if (below(12) == 0) {
@@ -417,6 +451,7 @@ static void good_sheet(void) {
             int most = longest(n, zero, &c);
             if (most == 0) continue;
             c.terms = below(4) ? most : 1 + below(most);
+            if (count && below(2)) c.terms = terms_of_one_distance(&all[below(count)], &c, most);
             int at = below(count + 1);
             memmove(all + at + 1, all + at, (size_t)(count - at) * sizeof *all);
             all[at] = c, count++;
@@ -596,11 +631,13 @@ static void try_refused(int count) {
 static void try_sheet(int good, int bad) {
     judge(sheet, sheet_length, &code);
     prepared = 0, distance_known = 0, costly = 2;
+    try_card(below(16) ? DUNEFORK_CARD_BYTES : wrong_length(DUNEFORK_CARD_BYTES));
     if (code.refusal) {
         refused_sheets++;
         try_refused(bad);
     } else {
         accepted_sheets++;
+        count_decided[decided_by(&code, sheet)]++;
         try_accepted(good);
     }
 }
@@ -611,21 +648,23 @@ static void report(uint64_t seed, double whole) {
            (unsigned long long)accepted_sheets, (unsigned long long)refused_sheets);
     printf("%.1f s, %.0f calls/s; inside the library %.1f s, %.0f calls/s\n", whole, (double)calls / whole, library_seconds,
            (double)calls / library_seconds);
-    printf("%-12s %10s %10s %10s\n", "reply", "encode", "read", "decode");
-    printf("%-12s %10llu %10llu %10llu\n", "done", (unsigned long long)count_done[0], (unsigned long long)count_done[1],
-           (unsigned long long)count_done[2]);
+    printf("accepted sheets, by what chose the certificate: %llu the largest d, %llu the fewest terms, %llu the earliest\n",
+           (unsigned long long)count_decided[0], (unsigned long long)count_decided[1], (unsigned long long)count_decided[2]);
+    printf("%-12s %10s %10s %10s %10s\n", "reply", "encode", "read", "decode", "card");
+    printf("%-12s %10llu %10llu %10llu %10llu\n", "done", (unsigned long long)count_done[0], (unsigned long long)count_done[1],
+           (unsigned long long)count_done[2], (unsigned long long)count_done[3]);
     for (int r = 1; r <= 14; r++)
-        printf("refused %-4d %10llu %10llu %10llu\n", r, (unsigned long long)count_refused[0][r],
-               (unsigned long long)count_refused[1][r], (unsigned long long)count_refused[2][r]);
+        printf("refused %-4d %10llu %10llu %10llu %10llu\n", r, (unsigned long long)count_refused[0][r],
+               (unsigned long long)count_refused[1][r], (unsigned long long)count_refused[2][r], (unsigned long long)count_refused[3][r]);
     printf("decoded, by changed places:");
     for (int i = 0; i <= PLACES; i++)
         if (count_changed[i]) printf(" %d:%llu", i, (unsigned long long)count_changed[i]);
     printf("\nwords that were decoded or refused with 13:\n");
     for (int i = 0; i < HOW; i++) printf("  %10llu %s\n", (unsigned long long)count_how[i], how_name[i]);
     printf("checksum %016llx\n", (unsigned long long)checksum);
-    for (int e = 0; e < 3; e++)
-        for (int r = 1; r <= 14; r++)
-            if (calls >= 100000 && !count_refused[e][r] && r <= 12) {
+    for (int e = 0; e <= CARD; e++)
+        for (int r = e == CARD ? 11 : 1; r <= (e == CARD ? 11 : 12); r++)
+            if (calls >= 100000 && !count_refused[e][r]) {
                 printf("refusal %d never came from %s\n", r, entry_name[e]);
                 exit(1);
             }

@@ -105,8 +105,7 @@ struct certificate {
 
 struct code {
     int refusal; /* 0 for an accepted sheet */
-    int n, k, s, d, t;
-    int proved; /* the largest distance that a certificate proves */
+    int n, k, s, working, d, t, terms; /* the last four of the working certificate */
     uint8_t zero[256];
     int alpha[PLACES];          /* powers of α */
     word_t generator;
@@ -191,7 +190,6 @@ static void judge(const uint8_t *sheet, size_t length, struct code *c) {
     c->k = n;
     for (int i = 0; i < n; i++) c->k -= c->zero[i];
     if (c->k == 0) return;
-    c->t = -1;
     for (int i = 0; i < certificates; i++) {
         struct certificate certificate = certificate_at(sheet + 10 + count + 8 * i);
         c->refusal = certificate_shape(n, &certificate);
@@ -199,8 +197,7 @@ static void judge(const uint8_t *sheet, size_t length, struct code *c) {
         c->refusal = 10;
         if (longest(n, c->zero, &certificate) < certificate.terms) return;
         int d = distance_of(&certificate);
-        if ((d - 1) / 2 > c->t) c->d = d, c->t = (d - 1) / 2;
-        if (d > c->proved) c->proved = d;
+        if (d > c->d || (d == c->d && certificate.terms < c->terms)) c->working = i, c->d = d, c->t = (d - 1) / 2, c->terms = certificate.terms;
     }
     c->refusal = 0;
     fill_algebra(c);

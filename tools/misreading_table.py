@@ -1,4 +1,4 @@
-# Misreadings of document 01 and of requests 2026-01 and 2026-03 of document 02, for tools/misreadings: each is a name and what is replaced in
+# Misreadings of document 01 and of requests 2026-01, 2026-03 and 2026-04 of document 02, for tools/misreadings: each is a name and what is replaced in
 # tools/second_reading.py, a line or a part of one, by what. What is replaced must stand there exactly once.
 MISREADINGS = []
 
@@ -156,13 +156,25 @@ misread('d = L + 1', DISTANCE, 'self.terms + 1')
 misread('d without + 1', DISTANCE, '-((self.v - self.terms) // self.u)')
 misread('d at least 2', DISTANCE, 'max(2, %s)' % DISTANCE)
 misread('t = d/2, or (d - 1)/2 rounded up', '(self.d - 1) // 2', 'self.d // 2')
-BETTER = 'certificates[i].t > certificates[best].t'
-misread('working: the last of equal t', BETTER, BETTER.replace('>', '>='))
-misread('working: the largest d', BETTER, BETTER.replace('.t', '.d'))
-misread('working: the largest L', BETTER, BETTER.replace('.t', '.terms'))
-misread('working: the first', BETTER, 'False')
-misread('working: the smallest t', BETTER, BETTER.replace('>', '<'))
-misread('d of the sheet: the largest', 'working(sheet), c.d,', 'working(sheet), max(x.d for x in certificates_of(sheet)),')
+BEATS = 'c.d > other.d or (c.d == other.d and c.terms < other.terms)'
+misread('working: the latest of equal ones', BEATS, BEATS.replace('<', '<='))
+misread('working: the first of the largest t, as before 2026-04', BEATS, 'c.t > other.t')
+misread('working: the largest t, then the fewest terms', BEATS, BEATS.replace('.d', '.t'))
+misread('working: the first of the largest d', BEATS, 'c.d > other.d')
+misread('working: the last of the largest d', BEATS, 'c.d >= other.d')
+misread('working: the largest d, then the most terms', BEATS, BEATS.replace('<', '>'))
+misread('working: the fewest terms, then the largest d', BEATS, 'c.terms < other.terms or (c.terms == other.terms and c.d > other.d)')
+misread('working: a larger d, or fewer terms', BEATS, 'c.d > other.d or c.terms < other.terms')
+misread('working: the most terms', BEATS, 'c.terms > other.terms')
+misread('working: the first', BEATS, 'False')
+misread('working: the smallest d', BEATS, 'c.d < other.d')
+KEPT = 'working(sheet), c.d, c.t, c.terms'
+misread('record: d of the first of the largest t', KEPT, 'working(sheet), max(certificates_of(sheet), key=lambda x: x.t).d, c.t, c.terms')
+misread('record: the terms of the first certificate', KEPT, KEPT.replace('c.terms', 'certificates_of(sheet)[0].terms'))
+misread('record: the fewest terms of any certificate', KEPT, KEPT.replace('c.terms', 'min(x.terms for x in certificates_of(sheet))'))
+misread('record: the most terms of any certificate', KEPT, KEPT.replace('c.terms', 'max(x.terms for x in certificates_of(sheet))'))
+misread('record: the index of the first of the largest d', KEPT,
+        'max(range(len(certificates_of(sheet))), key=lambda i: certificates_of(sheet)[i].d), c.d, c.t, c.terms')
 RADIUS = 'n, t, wanted = byte(sheet, 2), record(sheet)[5],'
 misread('decode: t of the first certificate', RADIUS, RADIUS.replace('record(sheet)[5]', 'certificates_of(sheet)[0].t'))
 misread('decode: t of the last certificate', RADIUS, RADIUS.replace('record(sheet)[5]', 'certificates_of(sheet)[-1].t'))

@@ -1,4 +1,4 @@
-# A second reading of document 01, with requests 2026-01 and 2026-03 of document 02, made from their text alone: judge, card, encode, read
+# A second reading of document 01, with requests 2026-01, 2026-03 and 2026-04 of document 02, made from their text alone: judge, card, encode, read
 # and decode as searches and sums (rule 3 by Euclid's algorithm, in field_factors.py; `period` is for misreadings alone), with none of the product's code and none of entry_answers.py's. Polynomials over two elements are masks, as in the
 # document. What the document leaves open (card's buffer of 1,024 bytes and its 11, the last newline, the 0 that encode and read return)
 # is as docs/PROMISES.md says.
@@ -231,11 +231,17 @@ def judged(sheet):
     return 0
 
 
+def beats(c, other):
+    # request 2026-04: "the largest d, then the fewest terms"
+    return c.d > other.d or (c.d == other.d and c.terms < other.terms)
+
+
 def working(sheet):
+    # "then the earliest"
     best = 0
     certificates = certificates_of(sheet)
     for i in range(len(certificates)):
-        if certificates[i].t > certificates[best].t:
+        if beats(certificates[i], certificates[best]):
             best = i
     return best
 

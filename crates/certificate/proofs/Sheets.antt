@@ -14,10 +14,11 @@ use lib.ListN.{length}
 use Rattle.document.specs.Answer.{firstOf}
 use Rattle.document.specs.Sheet.{Stated, certificateAt, Kind, statedBy, wrongLength, wrongCodeLength, wrongHeader}
 use Rattle.document.specs.Generator.{differences}
-use Rattle.document.specs.Certificate.{distance, radius}
+use Rattle.document.specs.Certificate.{distance}
 use Rattle.document.specs.Judge.{wrongDegree, sheetConditions, judgeConditions, dimensionOf, workingOf, workingCertificate}
 use Rattle.document.specs.Entry.{generatorOf, radiusOf, CodewordOf, wordOf, nearestMessage, decodedWord}
-use Rattle.document.proofs.Sane.{passed, working-most, accepted-dimension}
+use Rattle.document.proofs.Sane.{passed, accepted-dimension}
+use Rattle.document.proofs.Working.{working-within}
 use Rattle.document.proofs.Theory.{Length}
 use Rattle.document.proofs.Stated.{Headed, headed}
 use Rattle.document.proofs.Acceptance.{quiet-of, quiet-rules}
@@ -58,8 +59,7 @@ module _ {x : Stated} (a : Accepted x) where
   accepted-length = a .head .length-of
 
   pub working-lt : workingOf x < length (x .certificates)
-  unfolding workingOf
-  working-lt = working-most (length (x .certificates)) (λ i. radius (certificateAt x i)) 0 (a .head .one) .0
+  working-lt = working-within x (a .head .one)
 
   pub working-sound : Sound n reps (workingCertificate x)
   unfolding workingCertificate

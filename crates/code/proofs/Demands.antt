@@ -9,6 +9,7 @@
 --   Request01, request-01      2026-01, highest bit first: how words and messages lie in bytes
 --   Request02, request-02      2026-02, the encoder keeps only a remainder
 --   Request03, request-03      2026-03, rule 3 as document 001 needs it
+--   Request04, request-04      2026-04, the shorter certificate of two equal ones
 -- A record for each demand and for each request, a field for each clause, under the clause's words. Each demand is for every list of bytes
 -- that may be a sheet; x is what it states. The words are in specs/Published.antt and specs/Table.antt, under the documents' sentences. That
 -- the field's masks are the smallest primitive ones is mask-least of field/proofs/Smallest.antt; examples, 13 with a buffer that was not 0
@@ -25,23 +26,24 @@ use Rattle.field.specs.Mask.{_⊕_, coefficient, remainder}
 use Rattle.field.specs.Field.{orderOfTwo}
 use Rattle.document.specs.Answer.{returned, refused, firstOf}
 use Rattle.document.specs.Layout.{wordWeight, messageWeight, place, maskOf, bytesOf}
-use Rattle.document.specs.Sheet.{Stated, certificateAt}
+use Rattle.document.specs.Sheet.{Certificate, Stated, certificateAt}
 use Rattle.document.specs.Generator.{generatorPoly, differences}
-use Rattle.document.specs.Certificate.{rule3, distance}
+use Rattle.document.specs.Certificate.{rule3, distance, radius}
 use Rattle.document.specs.Judge.{certificateConditions, dimensionOf, workingOf, workingCertificate}
 use Rattle.document.specs.OtherTest.{conditionsWith}
 use Rattle.document.specs.Entry.{CodewordOf, generatorOf, radiusOf, wordOf, changed}
-use Rattle.document.specs.Card.{refusedLine, acceptedLines}
+use Rattle.document.specs.Card.{refusedLine, acceptedLines, radiusText}
 use Rattle.document.specs.Short.{short, stated, refusalsOf, judgeOf, encodeOf, readOf, decodeOf, listing, cardOf}
 use Rattle.document.proofs.Meaning.{differ-count}
 use Rattle.document.proofs.Tested.{conditions-are}
+use Rattle.document.proofs.Working.{radius-rises, radius-most}
 use Rattle.codeword.proofs.Places.{mask-lt, mask-coefficient}
 use Rattle.code.specs.Published.{IsAccepted, SheetRead, Bytes, Word, Message, InDefiningSet, SetSize, ZeroAt}
-use Rattle.code.specs.Published.{HasDegree, Divides, Rule1, Rule3, Published, Rounded, WorkingIs, Systematic, WordDecoded, kept}
+use Rattle.code.specs.Published.{HasDegree, Divides, Rule1, Rule3, Published, Rounded, Working, WorkingIs, Systematic, WordDecoded, kept}
 use Rattle.code.specs.Turns.{FirstThatHolds}
 use Rattle.code.specs.Table.{SpareBit, NoneNear, sheetTurns, encodeTurns, readTurns, decodeTurns, cardTurns}
 use Rattle.code.specs.Table.{NoneNearSaid, NoCodewordSaid, Answered}
-use Rattle.code.specs.Before.{PeriodCoprime, periodCoprime, judgeBefore}
+use Rattle.code.specs.Before.{PeriodCoprime, periodCoprime, judgeBefore, WorkingBefore, workingBefore, decodeWith}
 use Rattle.code.proofs.Tried.{judge-answered, encode-answered, read-answered, decode-answered, card-answered}
 use Rattle.code.proofs.Refusing.{read-sheet-bytes, sheet-first, card-writes, text-refused-iff, text-listed-iff}
 use Rattle.code.proofs.Refusing.{thirteen-iff, fourteen-iff}
@@ -54,6 +56,7 @@ use Rattle.code.proofs.Worded.{length-here, radius-said}
 use Rattle.code.proofs.RuleThree.{period-said, period-suffices, nine-alone}
 use Rattle.code.proofs.Rules.{modulus}
 use Rattle.code.proofs.Kept.{kept-said, encoded-said, word-said}
+use Rattle.code.proofs.Chosen.{working-only, record-chosen, card-chosen, before-said, radius-still, decoded-chosen, decoded-still}
 
 module _ (sheet : List ℕ) where
   abbrev x : Stated
@@ -155,7 +158,7 @@ module _ (sheet : List ℕ) where
   -- ---- demand 3: for every accepted sheet, every word of the right length without spare bits, and every output of the right length
   pub record Demand3 : Type 0 where
     -- d and t are those of the working certificate, and judging returns them
-    pub working : IsAccepted sheet → WorkingIs x (workingOf x) d t
+    pub working : IsAccepted sheet → WorkingIs x (workingOf x) d t (certificateAt x (workingOf x) .L)
     pub judged : IsAccepted sheet
         → judgeOf sheet
         ≡ returned (x .n ∷ k ∷ s ∷ workingOf x ∷ d ∷ t ∷ certificateAt x (workingOf x) .L ∷ [])
@@ -215,6 +218,29 @@ module _ (sheet : List ℕ) where
     pub full-radius : IsAccepted sheet → (word out : List ℕ) → Word x word → length out ≡ (x .n + 7) / 8
         → (c : ℕ) → CodewordOf x c → changed x word c ≤ t
         → decodeOf sheet word out ≡ (returned (changed x word c ∷ []), bytesOf wordWeight (x .n) c)
+
+  -- ---- 2026-04, the shorter certificate of two equal ones. specs/Before.antt has the choice that it was.
+  pub record Request04 : Type 0 where
+    -- "The working certificate becomes the one with the largest d, then the fewest terms, then the earliest": that one is it, and no other
+    pub chosen : IsAccepted sheet → (w : ℕ) → (w ≡ workingOf x) ↔ Working x w
+    -- "The record made from a sheet keeps d, t and the number of terms, and these always belong to that one certificate": whatever judging
+    -- returns, the index in it is that of the working certificate, and d, t and the number of terms are its own
+    pub one-certificate : (n′ k′ s′ w d′ t′ terms : ℕ) → judgeOf sheet ≡ returned (n′ ∷ k′ ∷ s′ ∷ w ∷ d′ ∷ t′ ∷ terms ∷ [])
+        → WorkingIs x w d′ t′ terms
+    -- "`linkcard` follows": its last line has the same t and index
+    pub linkcard : (n′ k′ s′ w d′ t′ terms : ℕ) → judgeOf sheet ≡ returned (n′ ∷ k′ ∷ s′ ∷ w ∷ d′ ∷ t′ ∷ terms ∷ [])
+        → (lines : List ℕ) × (listing sheet ≡ lines ++ radiusText t′ w)
+    -- "The largest d always has the largest t": of two certificates, and so of all on a sheet
+    pub rises : (c e : Certificate) → distance c ≤ distance e → radius c ≤ radius e
+    pub largest-radius : (i : ℕ) → i < length (x .certificates) → radius (certificateAt x i) ≤ t
+    -- what the choice was: the first with the largest t
+    pub before : IsAccepted sheet → WorkingBefore x (workingBefore x)
+    -- "so t stays what it was", of every sheet
+    pub radius-still : radius (certificateAt x (workingBefore x)) ≡ t
+    -- decodeWith says how decoding goes by a chosen certificate: by the working one it is decoding
+    pub in-its-place : (word out : List ℕ) → decodeWith workingOf sheet word out ≡ decodeOf sheet word out
+    -- "and every received word decodes as before": for every sheet, word and buffer, by the choice before it is the same
+    pub decoded-still : (word out : List ℕ) → decodeWith workingBefore sheet word out ≡ decodeOf sheet word out
 
 -- ---- of bytes alone: 2026-01, highest bit first: for all bytes; spare bits for a buffer of the right length
 pub record Request01 : Type 0 where
@@ -308,4 +334,18 @@ request-03 sheet = record {
   accepted-still = λ e. nine-alone sheet (λ n. omega (arith, e, n));
   answered-still = nine-alone sheet;
   full-radius = radius-said sheet;
+}
+
+pub request-04 : (sheet : List ℕ) → Request04 sheet
+unfolding radiusOf
+request-04 sheet = record {
+  chosen = working-only sheet;
+  one-certificate = λ n k s w d t terms e. record-chosen sheet e;
+  linkcard = λ n k s w d t terms e. card-chosen sheet e;
+  rises = radius-rises;
+  largest-radius = radius-most (stated sheet);
+  before = λ e. before-said (stated sheet) (omega (arith, working-said sheet e .working .below));
+  radius-still = radius-still (stated sheet);
+  in-its-place = decoded-chosen sheet;
+  decoded-still = decoded-still sheet;
 }

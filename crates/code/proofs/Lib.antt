@@ -1,7 +1,7 @@
 -- Laws, in reading order: the three demands, which all others serve; then what an accepted sheet of any kind states, judging in stages, the
 -- exits of the entries, what an accepted sheet of document 01's kind grants them, and demand 2 in bytes; then what the demands are put
 -- together from: conditions as statements, the rules of a certificate, what each entry tries, single refusals, the listing's length, and
--- demands 2 and 3 in the words of specs/Published.antt, and what the encoder keeps.
+-- demands 2 and 3 in the words of specs/Published.antt, what the encoder keeps, and the choice of a certificate.
 pub mod Demands
 pub mod Accepted
 pub mod Judging
@@ -16,3 +16,4 @@ pub mod Refusing
 pub mod Fits
 pub mod Worded
 pub mod Kept
+pub mod Chosen

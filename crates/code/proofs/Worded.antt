@@ -31,7 +31,7 @@ use Rattle.document.specs.Layout.{wordWeight, messageWeight, bytesFor, place, b
 use Rattle.document.specs.Sheet.{Stated, certificateAt}
 use Rattle.document.specs.Coset.{inSet}
 use Rattle.document.specs.Generator.{generatorPoly, isCodeword, messageOf, differences}
-use Rattle.document.specs.Certificate.{distance, radius}
+use Rattle.document.specs.Certificate.{distance}
 use Rattle.document.specs.Judge.{sheetConditions, certificateConditions, judgeConditions, dimensionOf, workingOf, workingCertificate, recordOf}
 use Rattle.document.specs.Entry.{CodewordOf, generatorOf, radiusOf, wordOf, encodedWord, changed}
 use Rattle.document.specs.Short.{short, stated, judgeOf, encodeOf, readOf, decodeOf}
@@ -39,7 +39,8 @@ use Rattle.document.proofs.Chain.{first-keep}
 use Rattle.document.proofs.GeneratorIs.{generator-digit, generator-is, generator-degree}
 use Rattle.document.proofs.Theory.{Length}
 use Rattle.document.proofs.Acceptance.{Rules, judge-number, certificate-iff, accepted-rules, accepted-record}
-use Rattle.document.proofs.Meaning.{set-iff, dimension-sum, spare-iff, radius-is, working-iff}
+use Rattle.document.proofs.Meaning.{set-iff, dimension-sum, spare-iff, radius-is}
+use Rattle.document.proofs.Working.{working-iff}
 use Rattle.binary.proofs.Meaning.{factor-iff}
 use Rattle.codeword.proofs.Places.{word-weights, message-weights, bytes-lt, mask-of-bytes, bytes-of-mask}
 use Rattle.codeword.proofs.Spare.{word-clear-iff, message-clear-iff}
@@ -213,18 +214,17 @@ module _ (sheet : List ℕ) where
         marked i true q = inl (refl, set-iff (length-here (inl e) .odd) (x .representatives) i .0 q)
         marked i false q = inr (refl, λ m. true-ne-false (set-iff (length-here (inl e) .odd) (x .representatives) i .1 m) q)
 
-    pub working-said : WorkingIs x (workingOf x) (distance (workingCertificate x)) (radiusOf x)
+    pub working-said : WorkingIs x (workingOf x) (distance (workingCertificate x)) (radiusOf x) (certificateAt x (workingOf x) .L)
     unfolding workingOf workingCertificate radiusOf
     working-said =
-        let w = working-iff (length (x .certificates)) (λ i. radius (certificateAt x i)) (workingOf x) (a .head .one) .0 refl in
+        let w = working-iff (certificateAt x) (length (x .certificates)) (workingOf x) (a .head .one) .0 refl in
         record {
-          below = w .0;
+          working = record { below = w .0; largest = w .1; fewest = w .2; earliest = w .3 };
           d-is = refl;
           rounded = rounded-said (workingOf x) (w .0);
           t-is = refl;
           halves = λ i l. radius-is (certificateAt x i);
-          largest = w .1;
-          first = w .2;
+          terms-is = refl;
         }
 
     pub record-said :
@@ -236,7 +236,7 @@ module _ (sheet : List ℕ) where
 
     pub apart-said : (c d : ℕ) → CodewordOf x c → CodewordOf x d → c ≢ d → distance (workingCertificate x) ≤ differences (x .n) c d
     unfolding workingCertificate
-    apart-said c d v w ne = distance-said (workingOf x) (working-said .below) c d v w ne
+    apart-said c d v w ne = distance-said (workingOf x) (working-said .working .below) c d v w ne
 
     -- ---- the generator
     pub generator-said : (i : ℕ) → getD (generatorPoly (x .n) (x .representatives)) i 0 ≡ coefficient i (generatorOf x)

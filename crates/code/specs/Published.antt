@@ -1,4 +1,4 @@
--- What document 01 publishes, with document 02's layout of words and rule 3, as statements: the words in which proofs/Demands.antt says the
+-- What document 01 publishes, with document 02's layout of words, rule 3 and choice of a certificate, as statements: the words in which proofs/Demands.antt says the
 -- three demands and the requests. The conditions of a certificate have no search in them; s, k, the generator and the working certificate,
 -- which the definitions search for or compute, are named, and fields of the demands say what they are (degree, dimension, generator, working).
 --
@@ -9,7 +9,7 @@
 --   HasDegree, Divides, Coprime    the degree of a mask; d divides a; no number above 1 divides both
 --   PolynomialOver, DividesOver    polynomials over the field, and their divisors
 --   Rule1 .. Rule4, Published      the rules of a certificate
---   Rounded, WorkingIs             d, and the working certificate with d and t
+--   Rounded, Working, WorkingIs      d, and the working certificate with d, t and its number of terms
 --   Systematic, WordDecoded            what encoding and decoding write
 --   kept m g k a j                 what is kept after the highest j of the k bits of a (2026-02)
 -- No contract of an entry cites this file.
@@ -157,16 +157,24 @@ pub record Rounded (c : Certificate) (d : ℕ) : Type 0 where
   pub enough : c .L + u ≤ d * u + v
   pub least : (e : ℕ) → c .L + u ≤ e * u + v → d ≤ e
 
--- "The working certificate is the first one with the largest t = (d - 1)/2 rounded down; the sheet's d and t are its own."
-pub record WorkingIs (x : Stated) (w d t : ℕ) : Type 0 where
+-- 2026-04: "The working certificate becomes the one with the largest d, then the fewest terms, then the earliest."
+pub record Working (x : Stated) (w : ℕ) : Type 0 where
   pub below : w < length (x .certificates)
+  pub largest : (i : ℕ) → i < length (x .certificates) → distance (certificateAt x i) ≤ distance (certificateAt x w)
+  pub fewest : (i : ℕ) → i < length (x .certificates) → distance (certificateAt x i) ≡ distance (certificateAt x w)
+      → certificateAt x w .L ≤ certificateAt x i .L
+  pub earliest : (i : ℕ) → i < length (x .certificates) → distance (certificateAt x i) ≡ distance (certificateAt x w)
+      → certificateAt x i .L ≡ certificateAt x w .L → w ≤ i
+
+-- "t = (d - 1)/2 rounded down; the sheet's d and t are its own", and so is the number of terms
+pub record WorkingIs (x : Stated) (w d t terms : ℕ) : Type 0 where
+  pub working : Working x w
   pub d-is : d ≡ distance (certificateAt x w)
   pub rounded : Rounded (certificateAt x w) d
   pub t-is : t ≡ radius (certificateAt x w)
   pub halves : (i : ℕ) → i < length (x .certificates)
       → (2 * radius (certificateAt x i) + 1 ≤ distance (certificateAt x i)) × (distance (certificateAt x i) ≤ 2 * radius (certificateAt x i) + 2)
-  pub largest : (i : ℕ) → i < length (x .certificates) → radius (certificateAt x i) ≤ t
-  pub first : (i : ℕ) → i < w → radius (certificateAt x i) < t
+  pub terms-is : terms ≡ certificateAt x w .L
 
 -- the word that a message is encoded into
 pub record Systematic (x : Stated) (message word : List ℕ) : Type 0 where

@@ -1,6 +1,6 @@
 -- The twelve cases of document 01, "Known sheets and words", as one table that the definitions hold; the fourteen examples of
--- its table of refusals as a second, 12 and 14 as 2026-01 has them; near misses, 2026-03's sheets among them; and listings. They are
--- said of the entries as they are defined; rule 3 is computed by what Tested.antt shows it to be.
+-- its table of refusals as a second, 12 and 14 as 2026-01 has them; near misses, sheets of 2026-03 and 2026-04 among
+-- them; and listings. They are said of the entries as they are defined; rule 3 is computed by what Tested.antt shows it to be.
 --
 --   sheetH, sheetE, sheetS, sheetB      the known sheets, in bytes
 --   facts, encodes, decodes             what the definitions say, as numbers
@@ -8,7 +8,7 @@
 --   refusals-hold                       the examples of "Refused, by number", 1 to 14, by their numbers
 --   near-hold                           near misses: each row with the misreadings that it catches
 --   before-hold                         rule 3 as it was refused the sheets of 2026-03
---   listings-hold                       the listing of sheet H and of three others, byte for byte
+--   listings-hold                       the listing of sheet H and of four others, byte for byte
 -- Where document 01 abbreviates an example of a refusal, the sheet is H with what is said changed.
 use mathlib.Core.Path.{_≡_, refl, ap, _∙_}
 use mathlib.Core.Bool.{Bool}
@@ -26,7 +26,7 @@ use Rattle.document.specs.Sheet.{Certificate, certificateAt, statedBy, w
 use Rattle.document.specs.Coset.{inCoset, smallest, inSet, definingSet, dimension}
 use Rattle.document.specs.Generator.{addPoly, timesRoot, rootProduct, generatorPoly, maskOfPoly, generator, isCodeword}
 use Rattle.document.specs.Generator.{encodeMask, messageOf, differences, nearest}
-use Rattle.document.specs.Certificate.{steps, ratio, extent, rule1, rule2, rule4, distance, radius, working}
+use Rattle.document.specs.Certificate.{steps, ratio, extent, rule1, rule2, rule4, distance, radius, beats, working}
 use Rattle.document.specs.Judge.{wrongDegree, wrongRepresentative, noMessage, sheetConditions}
 use Rattle.document.specs.Judge.{dimensionOf, workingOf, workingCertificate, recordOf, judgeEntry}
 use Rattle.document.specs.Entry.{generatorOf, radiusOf, encodeConditions, encodedWord, encodeEntry, readConditions, readEntry}
@@ -43,7 +43,7 @@ unfolding leastFrom least upTo keep some every total _⊕_ size productBelow clm
     fieldMultiply fieldPower α orderOfTwo firstOf settle wordWeight messageWeight bytesFor place maskOf byteOf bytesOf
     spare certificateAt statedBy inCoset smallest inSet definingSet dimension addPoly timesRoot rootProduct generatorPoly
     maskOfPoly generator isCodeword encodeMask messageOf differences nearest degree coprime divides common terms valueModulo
-    independent steps ratio extent rule1 rule2 rule4 fourWith conditionsWith distance radius working wrongLength wrongCodeLength wrongDegree wrongHeader
+    independent steps ratio extent rule1 rule2 rule4 fourWith conditionsWith distance radius beats working wrongLength wrongCodeLength wrongDegree wrongHeader
     wrongRepresentative noMessage sheetConditions dimensionOf workingOf
     workingCertificate recordOf judgeEntry generatorOf radiusOf encodeConditions encodedWord encodeEntry readConditions
     readEntry nearestMessage decodedWord decodeConditions decodeEntry flatMap
@@ -180,6 +180,9 @@ refusals-hold = ap refusals replies-tested ∙ refusals-computed
 twoCertificates : ℕ → List ℕ → List ℕ → List ℕ → List ℕ
 twoCertificates n reps c d = sheetOf n reps (c ++ d) (26 + length reps) 2
 
+threeCertificates : ℕ → List ℕ → List ℕ → List ℕ → List ℕ → List ℕ
+threeCertificates n reps c d e = sheetOf n reps (c ++ d ++ e) (34 + length reps) 3
+
 certificateOf : ℕ → ℕ → ℕ → ℕ → ℕ → ℕ → List ℕ
 certificateOf b z f high h L = b ∷ z ∷ f ∷ high ∷ h ∷ 0 ∷ L ∷ 0 ∷ []
 
@@ -205,8 +208,14 @@ module _ (E : Replies) where
       ∷ record-of (oneCertificate 21 (1 ∷ []) 1 1 19 11 8)  -- the period alone looked at: that of f is 15, and no two f(α^i x) have a common factor
       ∷ record-of (oneCertificate 21 (1 ∷ 3 ∷ 7 ∷ []) 14 5 19 7 15)  -- so with a step other than 1
       ∷ record-of (oneCertificate 21 (1 ∷ []) 1 1 7 2 8)  -- 9 never drawn, or 10 tried before it: f is 7
-      ∷ record-of (twoCertificates 7 (0 ∷ 1 ∷ []) (certificateOf 0 1 3 0 1 2) (certificateOf 0 1 3 0 1 3))  -- the largest d at work, or the last of the largest t: d is 3 and 4, t is 1 and 1
-      ∷ record-of (twoCertificates 15 (1 ∷ 3 ∷ []) (certificateOf 1 1 3 0 1 2) (certificateOf 1 1 3 0 1 4))  -- the first at work whatever its t
+      ∷ record-of (twoCertificates 15 (1 ∷ 3 ∷ []) (certificateOf 1 1 3 0 1 2) (certificateOf 1 1 3 0 1 4))  -- the first at work whatever its d
+      ∷ record-of (twoCertificates 7 (1 ∷ []) (certificateOf 1 1 7 0 1 4) (certificateOf 1 1 3 0 1 2))  -- the first of the largest d at work, or that with the most terms: d is 3 and 3
+      ∷ record-of (twoCertificates 7 (1 ∷ []) (certificateOf 1 1 3 0 1 2) (certificateOf 1 1 7 0 1 4))  -- the last of the largest d at work
+      ∷ record-of (twoCertificates 7 (1 ∷ []) (certificateOf 1 1 3 0 1 2) (certificateOf 1 3 3 0 1 2))  -- the latest of equal ones
+      ∷ record-of (twoCertificates 15 (0 ∷ 1 ∷ 3 ∷ []) (certificateOf 1 1 3 0 1 4) (certificateOf 0 1 3 0 1 5))  -- the largest t in d's place, or fewest terms before it: d is 5 and 6, t is 2 and 2
+      ∷ record-of (twoCertificates 15 (0 ∷ 1 ∷ 3 ∷ []) (certificateOf 0 1 3 0 1 5) (certificateOf 1 1 3 0 1 4))  -- fewest terms before largest d, or next after largest t
+      ∷ record-of (threeCertificates 15 (0 ∷ 1 ∷ 3 ∷ []) (certificateOf 0 1 5 0 1 9) (certificateOf 0 1 3 0 1 5) (certificateOf 1 1 3 0 1 4))  -- the first, or the last, at work: d is 6, 6 and 5
+      ∷ record-of (threeCertificates 7 (1 ∷ []) (certificateOf 1 1 7 0 1 4) (certificateOf 1 1 3 0 1 2) (certificateOf 1 3 3 0 1 2))  -- the latest of equal ones that beat the first: d is 3, 3 and 3
       ∷ record-of (twoCertificates 7 (1 ∷ []) (certificateOf 1 1 3 0 1 2) (certificateOf 1 1 3 0 1 3))  -- the first alone judged
       ∷ record-of (twoCertificates 7 (1 ∷ []) (certificateOf 1 1 3 0 1 3) (certificateOf 1 0 3 0 1 2))  -- 7 tried for both before 10 for the first
       ∷ record-of (oneCertificate 15 (1 ∷ []) 1 3 3 1 1)  -- z not held to be coprime to n
@@ -239,8 +248,14 @@ nearExpected =
     ∷ (0 ∷ 21 ∷ 15 ∷ 6 ∷ 0 ∷ 3 ∷ 1 ∷ 8 ∷ [])
     ∷ (0 ∷ 21 ∷ 10 ∷ 6 ∷ 0 ∷ 5 ∷ 2 ∷ 15 ∷ [])
     ∷ (9 ∷ [])
-    ∷ (0 ∷ 7 ∷ 3 ∷ 3 ∷ 0 ∷ 3 ∷ 1 ∷ 2 ∷ [])
     ∷ (0 ∷ 15 ∷ 7 ∷ 4 ∷ 1 ∷ 5 ∷ 2 ∷ 4 ∷ [])
+    ∷ (0 ∷ 7 ∷ 4 ∷ 3 ∷ 1 ∷ 3 ∷ 1 ∷ 2 ∷ [])
+    ∷ (0 ∷ 7 ∷ 4 ∷ 3 ∷ 0 ∷ 3 ∷ 1 ∷ 2 ∷ [])
+    ∷ (0 ∷ 7 ∷ 4 ∷ 3 ∷ 0 ∷ 3 ∷ 1 ∷ 2 ∷ [])
+    ∷ (0 ∷ 15 ∷ 6 ∷ 4 ∷ 1 ∷ 6 ∷ 2 ∷ 5 ∷ [])
+    ∷ (0 ∷ 15 ∷ 6 ∷ 4 ∷ 0 ∷ 6 ∷ 2 ∷ 5 ∷ [])
+    ∷ (0 ∷ 15 ∷ 6 ∷ 4 ∷ 1 ∷ 6 ∷ 2 ∷ 5 ∷ [])
+    ∷ (0 ∷ 7 ∷ 4 ∷ 3 ∷ 1 ∷ 3 ∷ 1 ∷ 2 ∷ [])
     ∷ (10 ∷ [])
     ∷ (10 ∷ [])
     ∷ (7 ∷ [])
@@ -263,7 +278,7 @@ nearExpected =
     ∷ []
 
 near-computed : near (repliesBy testedOf) ≡ nearExpected
-unfolding near nearExpected nine record-of answered decodes twoCertificates certificateOf sheetH sheetE sheetS sheetB oneCertificate sheetOf cardEntry cardConditions definitions
+unfolding near nearExpected nine record-of answered decodes twoCertificates threeCertificates certificateOf sheetH sheetE sheetS sheetB oneCertificate sheetOf cardEntry cardConditions definitions
 near-computed = refl
 
 near-hold : near documented ≡ nearExpected
@@ -285,12 +300,14 @@ module _ (E : Replies) where
   listings =
       E .text sheetH
       ∷ E .text (twoCertificates 15 (1 ∷ 3 ∷ []) (certificateOf 1 1 3 0 1 2) (certificateOf 1 1 3 0 1 4))  -- the first named as the working one; one line for all certificates; numbers of one digit alone
+      ∷ E .text (twoCertificates 7 (1 ∷ []) (certificateOf 1 1 7 0 1 4) (certificateOf 1 1 3 0 1 2))  -- the first of the largest d named, or the largest L
       ∷ E .text (sheetOf 7 [] (certificateOf 0 1 7 0 2 1) 18 1)  -- a space after `zeros` where D is empty
       ∷ E .text (sheetS 10)  -- another word than `refused`, two spaces, the digits of 10 the other way
       ∷ []
 
 -- code 7 4 3, zeros 1 2 4, generator 1101, cert 0 terms 2 distance 3, radius 1 from cert 0;
 -- code 15 7 4, zeros 1 2 3 4 6 8 9 12, generator 100010111, cert 0 terms 2 distance 3, cert 1 terms 4 distance 5, radius 2 from cert 1;
+-- code 7 4 3, zeros 1 2 4, generator 1101, cert 0 terms 4 distance 3, cert 1 terms 2 distance 3, radius 1 from cert 1;
 -- code 7 7 3, zeros, generator 1, cert 0 terms 1 distance 1, radius 0 from cert 0; refused 10
 listingsExpected : List (List ℕ)
 listingsExpected =
@@ -305,6 +322,12 @@ listingsExpected =
     ∷ 99 ∷ 101 ∷ 114 ∷ 116 ∷ 32 ∷ 48 ∷ 32 ∷ 116 ∷ 101 ∷ 114 ∷ 109 ∷ 115 ∷ 32 ∷ 50 ∷ 32 ∷ 100 ∷ 105 ∷ 115 ∷ 116 ∷ 97 ∷ 110 ∷ 99 ∷ 101 ∷ 32 ∷ 51 ∷ 10
     ∷ 99 ∷ 101 ∷ 114 ∷ 116 ∷ 32 ∷ 49 ∷ 32 ∷ 116 ∷ 101 ∷ 114 ∷ 109 ∷ 115 ∷ 32 ∷ 52 ∷ 32 ∷ 100 ∷ 105 ∷ 115 ∷ 116 ∷ 97 ∷ 110 ∷ 99 ∷ 101 ∷ 32 ∷ 53 ∷ 10
     ∷ 114 ∷ 97 ∷ 100 ∷ 105 ∷ 117 ∷ 115 ∷ 32 ∷ 50 ∷ 32 ∷ 102 ∷ 114 ∷ 111 ∷ 109 ∷ 32 ∷ 99 ∷ 101 ∷ 114 ∷ 116 ∷ 32 ∷ 49 ∷ 10 ∷ [])
+    ∷ (99 ∷ 111 ∷ 100 ∷ 101 ∷ 32 ∷ 55 ∷ 32 ∷ 52 ∷ 32 ∷ 51 ∷ 10
+    ∷ 122 ∷ 101 ∷ 114 ∷ 111 ∷ 115 ∷ 32 ∷ 49 ∷ 32 ∷ 50 ∷ 32 ∷ 52 ∷ 10
+    ∷ 103 ∷ 101 ∷ 110 ∷ 101 ∷ 114 ∷ 97 ∷ 116 ∷ 111 ∷ 114 ∷ 32 ∷ 49 ∷ 49 ∷ 48 ∷ 49 ∷ 10
+    ∷ 99 ∷ 101 ∷ 114 ∷ 116 ∷ 32 ∷ 48 ∷ 32 ∷ 116 ∷ 101 ∷ 114 ∷ 109 ∷ 115 ∷ 32 ∷ 52 ∷ 32 ∷ 100 ∷ 105 ∷ 115 ∷ 116 ∷ 97 ∷ 110 ∷ 99 ∷ 101 ∷ 32 ∷ 51 ∷ 10
+    ∷ 99 ∷ 101 ∷ 114 ∷ 116 ∷ 32 ∷ 49 ∷ 32 ∷ 116 ∷ 101 ∷ 114 ∷ 109 ∷ 115 ∷ 32 ∷ 50 ∷ 32 ∷ 100 ∷ 105 ∷ 115 ∷ 116 ∷ 97 ∷ 110 ∷ 99 ∷ 101 ∷ 32 ∷ 51 ∷ 10
+    ∷ 114 ∷ 97 ∷ 100 ∷ 105 ∷ 117 ∷ 115 ∷ 32 ∷ 49 ∷ 32 ∷ 102 ∷ 114 ∷ 111 ∷ 109 ∷ 32 ∷ 99 ∷ 101 ∷ 114 ∷ 116 ∷ 32 ∷ 49 ∷ 10 ∷ [])
     ∷ (99 ∷ 111 ∷ 100 ∷ 101 ∷ 32 ∷ 55 ∷ 32 ∷ 55 ∷ 32 ∷ 51 ∷ 10
     ∷ 122 ∷ 101 ∷ 114 ∷ 111 ∷ 115 ∷ 10
     ∷ 103 ∷ 101 ∷ 110 ∷ 101 ∷ 114 ∷ 97 ∷ 116 ∷ 111 ∷ 114 ∷ 32 ∷ 49 ∷ 10

@@ -1,24 +1,18 @@
--- The chain of conditions, and the working certificate, one certificate more at a time.
+-- The chain of conditions, one certificate more at a time.
 --
 --   first-true, first-false      the first of the conditions holds, or does not
 --   Quiet, first-quiet, quiet-append, first-keep      the first of two lists of conditions
 --   each, flat, flat-all, flat-suc, four-quiet, flat-stop      the conditions of the certificates in turn, by their indices
---   working-is, First, first-one, first-new, first-same      the working certificate among one more
-use mathlib.Core.Path.{_≡_, refl, sym, ap, _∙_, subst}
+use mathlib.Core.Path.{_≡_, refl, sym, ap, _∙_}
 use mathlib.Core.Bool.{Bool, true, false}
 use mathlib.Core.List.{List, [], _∷_, _++_, map, flatMap, append-assoc, append-nil}
-use Prim.Native.Nat.{ℕ, zero, suc, _+_, _-_, _≤_, _<_}
-use native.Mathlib.Decide.{ℕ-discrete}
+use Prim.Native.Nat.{ℕ, zero, suc, _+_, _-_}
 use native.Mathlib.Omega.{arith}
-use lib.Dec.{leb}
 use lib.ListN.{length, getD}
-use borrow.Author.Tests.{le-leb, lt-leb}
-use Rattle.field.specs.Search.{upTo, every}
-use Rattle.field.proofs.Search.{least-is, least-unique, every-of, upTo-suc}
-use Rattle.binary.proofs.Coprime.{every-not}
+use Rattle.field.specs.Search.{upTo}
+use Rattle.field.proofs.Search.{upTo-suc}
 use Rattle.document.specs.Answer.{Conditions, firstOf}
 use Rattle.document.specs.Sheet.{Stated, certificateAt}
-use Rattle.document.specs.Certificate.{working}
 use Rattle.document.specs.Judge.{certificateConditions}
 use Rattle.document.proofs.Sane.{passed}
 use Rattle.document.proofs.Stated.{by-index}
@@ -99,48 +93,3 @@ flat-stop most x i r (suc k) q e =
     let z : suc i + suc k ≡ suc (suc i + k) = omega arith in
     ap (λ (y : ℕ). firstOf (flat most x y)) z ∙ ap firstOf (flat-suc most x (suc i + k))
     ∙ first-keep (flat most x (suc i + k)) (each most x (suc i + k)) r (flat-stop most x i r k q e)
-
--- ---- the working certificate
-module _ (t : ℕ → ℕ) where
-  pub working-is : (n w : ℕ) → w < n → ((e : ℕ) → e < n → t e ≤ t w) → ((c : ℕ) → c < w → t c < t w) → working n t ≡ w
-  unfolding working
-  working-is n w h all fresh =
-      least-unique (least-is (λ c. every (λ e. leb (t e) (t c)) (upTo n)) n)
-      (record {
-        le = omega arith;
-        before = λ c l. every-not (λ e. leb (t e) (t c)) n w h (lt-leb (t w) (t c) (fresh c l));
-        passes = λ l. every-of (λ e. leb (t e) (t w)) n (λ e m. le-leb (t e) (t w) (all e m));
-      })
-
--- i certificates checked: w is the first of the largest t among them
-pub record First (t : ℕ → ℕ) (i w : ℕ) : Type 0 where
-  pub below : w < i
-  pub most : (e : ℕ) → e < i → t e ≤ t w
-  pub fresh : (c : ℕ) → c < w → t c < t w
-
-pub first-one : (t : ℕ → ℕ) → First t 1 0
-first-one t = record {
-  below = omega arith;
-  most = λ e h. let z : e ≡ 0 = omega arith in subst (λ (x : ℕ). t x ≤ t 0) (sym z) (omega arith);
-  fresh = λ c h. absurd (omega arith);
-}
-
-pub first-new : {t : ℕ → ℕ} {i w : ℕ} → First t i w → t w < t i → First t (i + 1) i
-first-new {t} {i} {w} f h = record {
-  below = omega arith;
-  most = λ e l. elim (ℕ-discrete e i) [
-    | yes q ↦ subst (λ (x : ℕ). t x ≤ t i) (sym q) (omega arith)
-    | no q ↦ omega (arith, f .most e (omega arith))
-  ];
-  fresh = λ c l. omega (arith, f .most c l);
-}
-
-pub first-same : {t : ℕ → ℕ} {i w : ℕ} → First t i w → t i ≤ t w → First t (i + 1) w
-first-same {t} {i} {w} f h = record {
-  below = omega (arith, f .below);
-  most = λ e l. elim (ℕ-discrete e i) [
-    | yes q ↦ subst (λ (x : ℕ). t x ≤ t w) (sym q) h
-    | no q ↦ f .most e (omega arith)
-  ];
-  fresh = f .fresh;
-}

@@ -5,6 +5,7 @@ pub mod Cosets
 pub mod Theory
 pub mod Stated
 pub mod Chain
+pub mod Working
 pub mod Acceptance
 pub mod Settled
 pub mod GeneratorIs

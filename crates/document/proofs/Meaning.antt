@@ -9,8 +9,7 @@
 --   no-message-iff             condition 6: every number below n is in D
 --   spare-iff                  condition 12: a spare bit is 1
 --   distance-least             d is the least number with L + u ≤ d·u + v; radius-is: t by d
---   working-iff                the first of the largest t
-use mathlib.Core.Path.{_≡_, refl, sym, ap, ap₂, _∙_, subst}
+use mathlib.Core.Path.{_≡_, refl, sym, ap, ap₂, _∙_}
 use mathlib.Core.Logic.{_↔_, _≢_, _⊎_, Iff·trans}
 use mathlib.Core.Bool.{Bool, true, false, not}
 use mathlib.Core.List.{List, [], _∷_}
@@ -20,11 +19,11 @@ use native.Mathlib.Decide.{decLt, ℕ-discrete}
 use native.Mathlib.Omega.{arith}
 use lib.Dec.{leb}
 use lib.ListN.{length, getD, length-append}
-use borrow.Author.Tests.{leb-false, le-leb, ltb-true, lt-ltb}
-use Rattle.field.specs.Search.{upTo, keep, every, total, bit}
+use borrow.Author.Tests.{leb-false, ltb-true, lt-ltb}
+use Rattle.field.specs.Search.{upTo, keep, total, bit}
 use Rattle.field.specs.Mask.{_⊕_, coefficient}
 use Rattle.field.specs.Field.{OddLength, orderOfTwo}
-use Rattle.field.proofs.Search.{true-ne-false, least-is, keep-suc, every-of, length-upTo, length-keep, total-z, total-s, total-ext}
+use Rattle.field.proofs.Search.{keep-suc, length-upTo, length-keep, total-z, total-s, total-ext}
 use Rattle.field.proofs.Xor.{bit-⊕}
 use Rattle.field.proofs.OrderOfTwo.{order-pos, order-divides, order-least}
 use Rattle.binary.specs.Factor.{degree}
@@ -34,14 +33,13 @@ use Rattle.document.specs.Layout.{bytesFor, place, spare}
 use Rattle.document.specs.Sheet.{Certificate, wrongLength, wrongCodeLength, wrongHeader}
 use Rattle.document.specs.Coset.{inCoset, smallest, inSet, definingSet, dimension}
 use Rattle.document.specs.Generator.{differences}
-use Rattle.document.specs.Certificate.{steps, ratio, extent, rule1, distance, radius, working}
+use Rattle.document.specs.Certificate.{steps, ratio, extent, rule1, distance, radius}
 use Rattle.document.specs.Judge.{wrongDegree, wrongRepresentative}
 use Rattle.document.specs.Short.{byteAt, numberAt, short}
 use Rattle.document.proofs.Reflect.{eqb-iff, leb-iff, ltb-iff, not-eq-iff, not-lt-iff, not-iff, or-of, and-of, right, left}
 use Rattle.document.proofs.Reflect.{some-says, not-every-iff, member-iff}
 use Rattle.document.proofs.Cosets.{coset-at, coset-of, smallest-at}
-use Rattle.document.proofs.Sane.{distance-pos, working-most}
-use Rattle.document.proofs.Chain.{working-is}
+use Rattle.document.proofs.Sane.{distance-pos}
 
 -- ---- conditions 1, 2 and 4
 pub length-iff : (sheet : List ℕ) → (wrongLength short sheet ≡ true)
@@ -279,26 +277,3 @@ distance-least c pos proper = (enough, none-less)
 pub radius-is : (c : Certificate) → (2 * radius c + 1 ≤ distance c) × (distance c ≤ 2 * radius c + 2)
 unfolding radius
 radius-is c = let p : 1 ≤ distance c = distance-pos c in (omega arith, omega arith)
-
--- ---- the working certificate
-pub working-iff : (count : ℕ) (t : ℕ → ℕ) (w : ℕ) → 0 < count → (working count t ≡ w)
-    ↔ ((w < count) × ((e : ℕ) → e < count → t e ≤ t w) × ((c : ℕ) → c < w → t c < t w))
-unfolding working
-working-iff count t w pos = (
-  λ e. (
-    subst (λ (x : ℕ). x < count) e (working-most count t 0 pos .0),
-    λ k l. subst (λ (x : ℕ). t k ≤ t x) e (working-most count t k l .1),
-    λ c l. subst (λ (x : ℕ). t c < t x) e (first c (subst (λ (x : ℕ). c < x) (sym e) l)),
-  ),
-  λ h. working-is t count w (h .0) (h .1) (h .2),
-)
-  where
-    first : (c : ℕ) → c < working count t → t c < t (working count t)
-    first c l = elim (decLt (t c) (t (working count t))) [
-      | yes h ↦ h
-      | no h ↦
-          absurd
-          (true-ne-false
-          (every-of (λ e. leb (t e) (t c)) count (λ e k. le-leb (t e) (t c) (omega (arith, working-most count t e k .1))))
-          (least-is (λ c. every (λ e. leb (t e) (t c)) (upTo count)) count .before c l))
-    ]

@@ -1,77 +1,39 @@
 -- Laws that a wrong definition would break.
 --
 --   distance-pos        a distance is at least 1
---   working-most, radius-most      the working certificate has the largest t: that of every other on the sheet is at most the sheet's t
 --   (that D is closed under doubling is set-doubles of Cosets.antt)
 --   set-size            D has n - k members
 --   poly-length, poly-top      the generator has degree n - k: n - k + 1 coefficients, the highest of them 1
 --   empty-set, generator-nil      no representatives: D is empty, and the generator 1
 --   empty-dimension, empty-generator      with no representatives stated, k = n and the generator is 1
 --   accepted-dimension  an accepted sheet, of any kind, has 1 ≤ k
-use mathlib.Core.Path.{_≡_, refl, sym, ap, ap₂, _∙_, subst}
+use mathlib.Core.Path.{_≡_, refl, sym, ap, ap₂, _∙_}
 use mathlib.Core.Logic.{_≢_}
 use mathlib.Core.Bool.{Bool, true, false}
 use mathlib.Core.List.{List, [], _∷_, map}
-use Prim.Native.Nat.{ℕ, zero, suc, _-_, _≤_, _<_}
+use Prim.Native.Nat.{ℕ, zero, suc, _-_, _≤_}
 use native.Mathlib.Nat.{sub-zero}
-use native.Mathlib.Decide.{decLt, ℕ-discrete}
 use native.Mathlib.Omega.{arith}
-use lib.Dec.{leb}
 use lib.ListN.{length, getD, length-map, List·getD-eq-default}
-use borrow.Author.Tests.{eqb-false, leb-true, le-leb}
-use Rattle.field.specs.Search.{least, upTo, some, every, total}
+use borrow.Author.Tests.{eqb-false}
+use Rattle.field.specs.Search.{upTo, some, total}
 use Rattle.field.specs.Mask.{_⊕_}
 use Rattle.field.specs.Field.{fieldMultiply, fieldPower, orderOfTwo, α}
-use Rattle.field.proofs.Search.{least-is, least-most, keep-none, every-at, every-of}
+use Rattle.field.proofs.Search.{keep-none}
 use Rattle.field.proofs.Search.{length-upTo, length-keep}
 use Rattle.field.proofs.Xor.{⊕-zero-r, ⊕-zero-l}
 use Rattle.document.specs.Answer.{Conditions, firstOf, settle}
-use Rattle.document.specs.Sheet.{Certificate, Stated, certificateAt, Kind, statedBy, wrongLength, wrongCodeLength, wrongHeader}
+use Rattle.document.specs.Sheet.{Certificate, Stated, Kind, statedBy, wrongLength, wrongCodeLength, wrongHeader}
 use Rattle.document.specs.Coset.{inSet, definingSet, dimension}
 use Rattle.document.specs.Generator.{addPoly, timesRoot, rootProduct, generatorPoly, maskOfPoly, generator}
-use Rattle.document.specs.Certificate.{distance, radius, working}
+use Rattle.document.specs.Certificate.{distance}
 use Rattle.document.specs.Judge.{wrongDegree, wrongRepresentative, noMessage, sheetConditions, judgeConditions}
-use Rattle.document.specs.Judge.{dimensionOf, workingOf, workingCertificate}
+use Rattle.document.specs.Judge.{dimensionOf}
 use Rattle.document.specs.Entry.{generatorOf}
 
 pub distance-pos : (c : Certificate) → 1 ≤ distance c
 unfolding distance
 distance-pos c = omega arith
-
--- ---- the working certificate
-upto-last : (t : ℕ → ℕ) (n i : ℕ) → t n ≤ t i → ((j : ℕ) → j < n → t j ≤ t i) → (j : ℕ) → j < suc n → t j ≤ t i
-upto-last t n i top rest j h = elim (ℕ-discrete j n) [
-  | yes e ↦ subst (λ (x : ℕ). t x ≤ t i) (sym e) top
-  | no e ↦ rest j (omega arith)
-]
-
--- of some numbers one is largest
-largest : (t : ℕ → ℕ) (n : ℕ) → (i : ℕ) × (i < suc n) × ((j : ℕ) → j < suc n → t j ≤ t i)
-largest t zero = (0, omega arith, upto-last t 0 0 (omega arith) (λ j h. absurd (omega arith)))
-largest t (suc n) =
-    let r = largest t n in
-    elim (decLt (t (r .0)) (t (suc n))) [
-      | yes l ↦ (suc n, omega arith, upto-last t (suc n) (suc n) (omega arith) (λ j h. omega (arith, r .2 j h)))
-      | no l ↦ (r .0, omega (arith, r .1), upto-last t (suc n) (r .0) (omega arith) (r .2))
-    ]
-
-pub working-most : (count : ℕ) (t : ℕ → ℕ) (c : ℕ) → c < count → (working count t < count) × (t c ≤ t (working count t))
-unfolding working
-working-most zero t c h = absurd (omega arith)
-working-most (suc n) t c h =
-    let test : ℕ → Bool = λ c. every (λ e. leb (t e) (t c)) (upTo (suc n)) in
-    let r = largest t n in
-    let m : least test (suc n) ≤ r .0 =
-    least-most test (suc n) (r .0) (every-of (λ e. leb (t e) (t (r .0))) (suc n) (λ k l. le-leb (t k) (t (r .0)) (r .2 k l))) in
-    let w : least test (suc n) < suc n = omega (arith, r .1) in (
-      w,
-      leb-true (t c) (t (least test (suc n)))
-          (every-at (λ e. leb (t e) (t (least test (suc n)))) (suc n) (least-is test (suc n) .passes w) c h),
-    )
-
-pub radius-most : (x : Stated) (i : ℕ) → i < length (x .certificates) → radius (certificateAt x i) ≤ radius (workingCertificate x)
-unfolding workingCertificate workingOf
-radius-most x i h = working-most (length (x .certificates)) (λ i. radius (certificateAt x i)) i h .1
 
 -- ---- the generator
 pub add-at : (p q : List ℕ) (i : ℕ) → getD (addPoly p q) i 0 ≡ getD p i 0 ⊕ getD q i 0

@@ -3,7 +3,8 @@
 --   steps, ratio, extent      the parts of rule 1
 --   rule1 .. rule4            the four rules
 --   distance, radius          d and t of a certificate
---   working count t           the first of the largest of t 0, t 1, .. below count
+--   beats c e                 c is to be preferred to e
+--   working count at          which of the certificates at 0, at 1, .. below count is at work
 use mathlib.Core.Bool.{Bool, not, _&&_, _||_}
 use mathlib.Core.List.{List}
 use Prim.Native.Nat.{ℕ, _+_, _-_, _*_, _/_, _%_}
@@ -56,6 +57,10 @@ distance c = (c .L - degree (c .h) + (degree (c .f) - 1)) / degree (c .f) + 1
 unfoldable pub radius : Certificate → ℕ
 radius c = (distance c - 1) / 2
 
--- "The working certificate is the first one with the largest t"
-unfoldable pub working : ℕ → (ℕ → ℕ) → ℕ
-working count t = least (λ c. every (λ e. leb (t e) (t c)) (upTo count)) count
+-- 2026-04: "the largest d, then the fewest terms": a larger d, or the same d in fewer terms
+unfoldable pub beats : Certificate → Certificate → Bool
+beats c e = ltb (distance e) (distance c) || (eqb (distance c) (distance e) && ltb (c .L) (e .L))
+
+-- "The working certificate becomes the one with the largest d, then the fewest terms, then the earliest": the least index that no other beats
+unfoldable pub working : ℕ → (ℕ → Certificate) → ℕ
+working count at = least (λ i. every (λ j. not (beats (at j) (at i))) (upTo count)) count

@@ -66,12 +66,12 @@ dimensionOf x = dimension (x .n) (x .representatives)
 
 -- the index of the working certificate
 unfoldable pub workingOf : Stated → ℕ
-workingOf x = working (length (x .certificates)) (λ i. radius (certificateAt x i))
+workingOf x = working (length (x .certificates)) (certificateAt x)
 
 unfoldable pub workingCertificate : Stated → Certificate
 workingCertificate x = certificateAt x (workingOf x)
 
--- "the sheet's d and t are its own"
+-- "the sheet's d and t are its own"; 2026-04: "keeps d, t and the number of terms, and these always belong to that one certificate"
 unfoldable pub recordOf : Stated → List ℕ
 recordOf x =
     let c : Certificate = workingCertificate x in

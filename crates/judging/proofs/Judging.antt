@@ -2,7 +2,7 @@
 --
 --   judge-1 .. judge-4, judge-pass      a sheet by the conditions 1 to 4, and where none holds by what it states
 --   code-5, code-6, code-refused, code-accepted      what is stated, by one law for each exit
---   best-is, working-within      the working certificate's numbers, from the certificates' answer
+--   best-is, best-within      the working certificate's numbers, from the certificates' answer
 --   size-is, size-le             as many marks as members of D
 --   none-left, some-left         whether k is 0, by the size of D
 --   no-marks                     an array of zeros marks nothing
@@ -20,17 +20,18 @@ use Rattle.field.specs.Field.{orderOfTwo}
 use Rattle.field.proofs.Search.{keep-suc, length-upTo, length-keep, total-z, total-s, total-ext}
 use Rattle.judging.specs.declared.types.Best.{Best}
 use Rattle.document.specs.Answer.{returned, refused, Conditions, firstOf, settle}
-use Rattle.document.specs.Sheet.{Certificate, Stated, certificateAt, Kind, statedBy, wrongLength, wrongCodeLength, wrongHeader}
+use Rattle.document.specs.Sheet.{Stated, Kind, statedBy, wrongLength, wrongCodeLength, wrongHeader}
 use Rattle.document.specs.Coset.{inSet, definingSet, dimension}
 use Rattle.document.specs.Certificate.{distance, radius}
 use Rattle.document.specs.Judge.{wrongDegree, wrongRepresentative, noMessage, sheetConditions, certificateConditions, judgeConditions}
 use Rattle.document.specs.Judge.{dimensionOf, workingOf, workingCertificate, recordOf, judgeEntry}
-use Rattle.document.proofs.Sane.{settle-number, distance-pos, working-most}
+use Rattle.document.proofs.Sane.{settle-number, distance-pos}
+use Rattle.document.proofs.Working.{working-within}
 use Rattle.document.proofs.Chain.{first-true, first-false}
 use Rattle.document.proofs.Acceptance.{judgeBy}
-use Rattle.sheet.specs.Stage.{Marks, certificateIn}
+use Rattle.sheet.specs.Stage.{Marks}
 use Rattle.judging.specs.Weigh.{statedAs, weighOf, recorded, statedConditions, judgeStated}
-use Rattle.judging.proofs.Weighing.{settle-refused, stated-count, stated-certificate}
+use Rattle.judging.proofs.Weighing.{settle-refused, stated-count}
 
 settle-none : (v : List ℕ) → settle 0 v [] [] .0 ≡ returned v
 unfolding settle
@@ -91,7 +92,7 @@ module _ (most : ℕ) (x : Stated) where
   rest = flatMap (certificateConditions most (x .n) (x .representatives)) (x .certificates)
 
   abbrev weighed : List ℕ
-  weighed = workingOf x ∷ distance (workingCertificate x) ∷ []
+  weighed = workingOf x ∷ distance (workingCertificate x) ∷ workingCertificate x .L ∷ []
 
   pub code-5 : true ≡ wrongRepresentative (x .n) (x .representatives) → refused 5 ≡ judgeStated most x
   unfolding statedConditions judgeStated
@@ -121,24 +122,21 @@ module _ (most : ℕ) (x : Stated) where
       code-refused r h e =
           by-first (statedConditions most x) x h (before ∙ first-is r weighed (ap (λ a. a .number) (sym e)))
 
-      pub code-accepted : {v : List ℕ} (i d : ℕ) → returned (i ∷ d ∷ []) ≡ weighOf most x → v ≡ recordOf x → returned v ≡ judgeStated most x
+      pub code-accepted : {v : List ℕ} (i d l : ℕ) → returned (i ∷ d ∷ l ∷ []) ≡ weighOf most x → v ≡ recordOf x → returned v ≡ judgeStated most x
       unfolding judgeStated weighOf judgeEntry
-      code-accepted i d e q =
+      code-accepted i d l e q =
           ap returned q ∙ sym (settle-none (recordOf x))
           ∙ ap (λ (y : ℕ). settle y (recordOf x) [] [] .0) (sym (before ∙ first-is 0 weighed (ap (λ a. a .number) (sym e))))
 
   -- the working certificate's numbers, from the certificates' answer
-  pub best-is : (i d : ℕ) → returned (i ∷ d ∷ []) ≡ weighOf most x → (i ≡ workingOf x) × (d ≡ distance (workingCertificate x))
+  pub best-is : (i d l : ℕ) → returned (i ∷ d ∷ l ∷ []) ≡ weighOf most x
+      → (i ≡ workingOf x) × (d ≡ distance (workingCertificate x)) × (l ≡ workingCertificate x .L)
   unfolding weighOf
-  best-is i d e =
+  best-is i d l e =
       let f : firstOf rest ≡ 0 = first-is 0 weighed (ap (λ a. a .number) (sym e)) in
-      let v : i ∷ d ∷ [] ≡ weighed =
+      let v : i ∷ d ∷ l ∷ [] ≡ weighed =
       ap (λ a. a .values) (e ∙ ap (λ (y : ℕ). settle y weighed [] [] .0) f ∙ settle-none weighed) in
-      (cc, cc)
-
-  pub working-within : 1 ≤ length (x .certificates) → workingOf x < length (x .certificates)
-  unfolding workingOf
-  working-within h = working-most (length (x .certificates)) (λ i. radius (certificateAt x i)) 0 h .0
+      (cc, cc, cc)
 
 -- ---- the size of D
 keep-total : (test : ℕ → Bool) (n : ℕ) → length (keep test (upTo n)) ≡ total n (λ i. bit (test i))
@@ -179,23 +177,20 @@ no-marks n m h = record {
 }
 
 -- ---- the record
-pub record-is : (most n : ℕ) (reps : List ℕ) (count : ℕ) (w : List ℕ) {s size terms : ℕ} {best : Best} {c : Certificate} → 1 ≤ count
-    → s ≡ orderOfTwo n → size ≡ length (definingSet n reps) → c ≡ certificateIn w (best .index) → terms ≡ c .L
-    → returned (best .index ∷ best .d ∷ []) ≡ weighOf most (statedAs n reps count w)
-    → recorded n s size best terms ≡ recordOf (statedAs n reps count w)
-unfolding recordOf dimensionOf dimension radius workingCertificate
-record-is most n reps count w {s} {size} {terms} {best} {c} one a b d e f =
-    let x : Stated = statedAs n reps count w in
-    let q = best-is most x (best .index) (best .d) f in
-    let within : workingOf x < count = omega (arith, working-within most x (omega (arith, stated-count n reps count w)), stated-count n reps count w) in
-    let l : terms ≡ certificateAt x (workingOf x) .L =
-    e ∙ ap (λ (c : Certificate). c .L) (d ∙ ap (certificateIn w) (q .0) ∙ sym (stated-certificate n reps count w (workingOf x) within)) in
-    λ i. n ∷ (n - b i) ∷ a i ∷ q .0 i ∷ q .1 i ∷ ((q .1 i - 1) / 2) ∷ l i ∷ []
+pub record-is : (most n : ℕ) (reps : List ℕ) (count : ℕ) (w : List ℕ) {s size : ℕ} {best : Best}
+    → s ≡ orderOfTwo n → size ≡ length (definingSet n reps)
+    → returned (best .index ∷ best .d ∷ best .terms ∷ []) ≡ weighOf most (statedAs n reps count w)
+    → recorded n s size best ≡ recordOf (statedAs n reps count w)
+unfolding recordOf dimensionOf dimension radius
+record-is most n reps count w {s} {size} {best} a b f =
+    let q = best-is most (statedAs n reps count w) (best .index) (best .d) (best .terms) f in
+    λ i. n ∷ (n - b i) ∷ a i ∷ q .0 i ∷ q .1 i ∷ ((q .1 i - 1) / 2) ∷ q .2 i ∷ []
 
 -- the best certificate's index and distance, within what the code asks
 pub best-within : (most n : ℕ) (reps : List ℕ) (count : ℕ) (w : List ℕ) {best : Best} → 1 ≤ count
-    → returned (best .index ∷ best .d ∷ []) ≡ weighOf most (statedAs n reps count w) → (best .index < count) × (1 ≤ best .d)
+    → returned (best .index ∷ best .d ∷ best .terms ∷ []) ≡ weighOf most (statedAs n reps count w) → (best .index < count) × (1 ≤ best .d)
 best-within most n reps count w {best} one f =
     let x : Stated = statedAs n reps count w in
-    let q = best-is most x (best .index) (best .d) f in
-    (omega (arith, q .0, working-within most x (omega (arith, stated-count n reps count w)), stated-count n reps count w), omega (arith, q .1, distance-pos (workingCertificate x)))
+    let q = best-is most x (best .index) (best .d) (best .terms) f in
+    let c = stated-count n reps count w in
+    (omega (arith, q .0, working-within x (omega (arith, c)), c), omega (arith, q .1, distance-pos (workingCertificate x)))

@@ -6,10 +6,10 @@
 --   recorded                     the record by the code's numbers
 --   statedConditions, judgeStated, Judgeable      refusals 5 to 10, and what they need
 use mathlib.Core.Path.{_≡_}
-use mathlib.Core.Bool.{Bool, true, false}
+use mathlib.Core.Bool.{Bool, true, false, _&&_, _||_}
 use mathlib.Core.List.{List, [], _∷_, flatMap}
-use Prim.Native.Nat.{ℕ, _+_, _-_, _*_, _/_, _≤_}
-use lib.Dec.{ltb}
+use Prim.Native.Nat.{ℕ, _-_, _*_, _/_, _≤_}
+use lib.Dec.{eqb, ltb}
 use lib.ListN.{length}
 use Rattle.field.specs.Field.{orderOfTwo}
 use Rattle.judging.specs.declared.types.Best.{Best}
@@ -31,11 +31,13 @@ abbrev pub chosen : Bool → Best → Best → Best
 chosen true a b = a
 chosen false a b = b
 
-abbrev pub bestOf : Best → ℕ → ℕ → Best
-bestOf best i e = chosen (ltb ((best .d + 1) / 2) ((e + 1) / 2)) (record { index = i; d = e }) best
+-- certificate i, of distance e and so many terms, against the best so far
+abbrev pub bestOf : Best → ℕ → ℕ → ℕ → Best
+bestOf best i e terms =
+    chosen (ltb (best .d) e || (eqb e (best .d) && ltb terms (best .terms))) (record { index = i; d = e; terms = terms }) best
 
 abbrev pub weighedAs : Weighed → Answer
-weighedAs (Working b) = returned (b .index ∷ b .d ∷ [])
+weighedAs (Working b) = returned (b .index ∷ b .d ∷ b .terms ∷ [])
 weighedAs (NotWeighed r) = refused (numberOf r)
 
 abbrev pub distanceOfBest : Weighed → ℕ
@@ -45,7 +47,7 @@ distanceOfBest (NotWeighed r) = 0
 unfoldable pub weighOf : ℕ → Stated → Answer
 weighOf most x =
     settle (firstOf (flatMap (certificateConditions most (x .n) (x .representatives)) (x .certificates)))
-    (workingOf x ∷ distance (workingCertificate x) ∷ []) [] [] .0
+    (workingOf x ∷ distance (workingCertificate x) ∷ workingCertificate x .L ∷ []) [] [] .0
 
 pub record Weighable (most n count : ℕ) (w z : List ℕ) : Type 0 where
   pub most-le : most ≤ 65527
@@ -58,8 +60,8 @@ pub record WeighedBy (most n count : ℕ) (w z : List ℕ) (answer : Answer) : T
   pub is : (reps : List ℕ) → Marks n reps z → answer ≡ weighOf most (statedAs n reps count w)
 
 -- ---- the whole
-abbrev pub recorded : ℕ → ℕ → ℕ → Best → ℕ → List ℕ
-recorded n s size best terms = n ∷ (n - size) ∷ s ∷ best .index ∷ best .d ∷ ((best .d - 1) / 2) ∷ terms ∷ []
+abbrev pub recorded : ℕ → ℕ → ℕ → Best → List ℕ
+recorded n s size best = n ∷ (n - size) ∷ s ∷ best .index ∷ best .d ∷ ((best .d - 1) / 2) ∷ best .terms ∷ []
 
 unfoldable pub statedConditions : ℕ → Stated → Conditions
 statedConditions most x =

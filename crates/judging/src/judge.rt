@@ -9,7 +9,6 @@ use crate::types::Weighed;
 use crate::weigh::weigh;
 use document::types::Judged;
 use document::types::Refusal;
-use sheet::certificates::certificate_at;
 use sheet::cosets::marks;
 use sheet::cosets::wrong_representative;
 
@@ -36,9 +35,6 @@ pub fn judge_code(
     let weighed = weigh(most, n, certificates, count, zeros);
     match weighed {
         Weighed::Refused(r) => Judged::Refused(r),
-        Weighed::Working(best) => {
-            let working = certificate_at(certificates, best.index);
-            Judged::Accepted(record_of(n, s, size, best, working.terms))
-        }
+        Weighed::Working(best) => Judged::Accepted(record_of(n, s, size, best)),
     }
 }

@@ -6,10 +6,10 @@ ghost use Rattle.judging.specs.Weigh.{recorded};
 use crate::types::Best;
 use document::types::Record;
 
-// The record, by n, s, the size of D, the working certificate and its number of terms.
-pub fn record_of(n: usize, s: usize, size: usize, best: Best, terms: u16) -> Record
+// The record, by n, s, the size of D and the working certificate: its d, t and number of terms are that one's.
+pub fn record_of(n: usize, s: usize, size: usize, best: Best) -> Record
     requires { ⌜ (size ≤ n) × (n ≤ 65535) × (s ≤ 65535) × (best .index ≤ 65535) × (1 ≤ best .d) × (best .d ≤ 65535) ⌝ }
-    ensures { λ r. ⌜ recordAs r ≡ recorded n s size best terms ⌝ }
+    ensures { λ r. ⌜ recordAs r ≡ recorded n s size best ⌝ }
 {
     Record {
         n: n as u16,
@@ -18,6 +18,6 @@ pub fn record_of(n: usize, s: usize, size: usize, best: Best, terms: u16) -> Rec
         working: best.index as u16,
         d: best.d as u16,
         t: ((best.d - 1) / 2) as u16,
-        terms,
+        terms: best.terms,
     }
 }

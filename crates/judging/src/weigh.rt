@@ -8,33 +8,43 @@ use certificate::check::check;
 use certificate::types::Checked;
 use sheet::certificates::certificate_at;
 
-// The better of the best so far and certificate i with distance e: the later one only where its t is larger. A distance of 0
-// stands for none so far. ((d + 1) / 2 is t + 1.)
-fn better(best: Best, i: usize, e: usize) -> Best
-    requires { ⌜ (best .d ≤ 65535) × (e ≤ 65535) ⌝ }
-    ensures { λ r. ⌜ r ≡ bestOf best i e ⌝ }
+// The better of the best so far and certificate i: the earlier one unless d of the later is larger, or the same in fewer terms. A distance
+// of 0 stands for none so far.
+fn better(best: Best, i: usize, d: usize, terms: u16) -> Best
+    ensures { λ r. ⌜ r ≡ bestOf best i d terms ⌝ }
 {
-    if (best.d + 1) / 2 < (e + 1) / 2 {
-        return Best { index: i, d: e };
+    if d < best.d {
+        return best;
     }
-    best
+    if d == best.d {
+        if best.terms <= terms {
+            return best;
+        }
+    }
+    Best { index: i, d, terms }
 }
 
-// The first `count` certificates in turn, each of at most `most` terms: the working one with its distance, or the first refusal.
+// The first `count` certificates in turn, each of at most `most` terms: the working one with its distance and terms, or the first refusal.
 pub fn weigh(most: usize, n: usize, certificates: &[u16], count: usize, zeros: &[u8]) -> Weighed
     requires { ⌜ Weighable most n count (now certificates) (now zeros) ⌝ }
     ensures { λ r. ⌜ WeighedBy most n count (now (certificates .entry)) (now (zeros .entry)) (weighedAs r) × (distanceOfBest r ≤ most + 8) ⌝ }
 {
-    let mut best = Best { index: 0, d: 0 };
+    let mut best = Best {
+        index: 0,
+        d: 0,
+        terms: 0,
+    };
     let mut i: usize = 0;
     while i < count {
-        let checked = check(most, n, certificate_at(certificates, i), zeros);
+        let c = certificate_at(certificates, i);
+        let terms = c.terms;
+        let checked = check(most, n, c, zeros);
         match checked {
             Checked::Refused(r) => {
                 return Weighed::Refused(r);
             }
-            Checked::Distance(e) => {
-                best = better(best, i, e);
+            Checked::Distance(d) => {
+                best = better(best, i, d, terms);
             }
         }
         i = i + 1;

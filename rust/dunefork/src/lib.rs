@@ -268,8 +268,8 @@ pub fn decode(sheet: &[u8], word: &[u8], out: &mut [u8]) -> Result<usize, Error>
 }
 
 /// Tells what a sheet amounts to: its listing, the text of the program `linkcard`, written into `out`. The lines are `code N K S`, S
-/// being the field's degree, `zeros ..`, `generator ..`, `cert C terms L distance D` for each certificate C, and `radius T from cert C`;
-/// or `refused R` alone.
+/// being the field's degree, `zeros ..`, `generator ..`, `cert C terms L distance D` for each certificate C, and `radius T from cert C`
+/// for the certificate at work, the one with the largest D, then the smallest L, then the first; or `refused R` alone.
 ///
 /// ```
 /// const SHEET: [u8; 19] = [19, 0, 7, 1, 10, 0, 1, 0, 11, 0, 1, 1, 1, 3, 0, 1, 0, 2, 0];

@@ -1,6 +1,6 @@
 -- `judging::judge::judge_code` meets its contract: each exit is the definition's, by the marks that refusal 5 leaves.
 use native.Mathlib.Omega.{arith}
-use mathlib.Core.Path.{refl, sym, ap, _∙_, subst}
+use mathlib.Core.Path.{sym, ap, _∙_, subst}
 use Prim.Native.Nat.{_+_, _≤_}
 use Rattle.judging.specs.Weigh.{weighedAs, distanceOfBest}
 use Rattle.judging.proofs.Weighing.{number-pos}
@@ -45,18 +45,15 @@ enum-known-weighed c = search needs
 enum-known-weighed-2 : tie.Need-enum-known-weighed-2
 enum-known-weighed-2 c = search needs
 
-certificate-at-requires : tie.Need-certificate-at-requires
-certificate-at-requires c κs = let p = c .before .before .before .before .before .before .before .before .before .before .before .before .before .before .before .before .pre .0 in let m = c .before .before .before .before .before .before .before .before .before .before .before .wrong-representative .ensures .marks (c .before .before .before .before .before .before .before .before .if1 .left) in
-    let e = sym (ap weighedAs (c .before .weighed2 .given .1)) ∙ c .before .before .before .weigh .ensures .0 .is _ m in
-    omega (arith, best-within _ _ _ _ _ (p .one) e .0, p .long)
-
 record-of-requires : tie.Need-record-of-requires
-record-of-requires c κs = let p = c .before .before .before .before .before .before .before .before .before .before .before .before .before .before .before .before .before .pre .0 in let m = c .before .before .before .before .before .before .before .before .before .before .before .before .wrong-representative .ensures .marks (c .before .before .before .before .before .before .before .before .before .if1 .left) in
-    let e = sym (ap weighedAs (c .before .before .weighed2 .given .1)) ∙ c .before .before .before .before .weigh .ensures .0 .is _ m in
+record-of-requires c κs = let a = c .before .before .before .before .before .before .before .before .before .before .before .before .before .before .before .before .args in
+    let p = c .before .before .before .before .before .before .before .before .before .before .before .before .before .before .before .before .pre .0 in
+    let m = c .before .before .before .before .before .before .before .before .before .before .before .wrong-representative .ensures .marks (c .before .before .before .before .before .before .before .before .if1 .left) in
+    let e = sym (ap weighedAs (c .before .weighed2 .given .1)) ∙ c .before .before .before .weigh .ensures .0 .is _ m in
     let b = best-within _ _ _ _ _ (p .one) e in
-    let d = subst (λ x. distanceOfBest x ≤ c .before .before .before .before .before .before .before .before .before .before .before .before .before .before .before .before .before .args .most + 8) (c .before .before .weighed2 .given .1) (c .before .before .before .before .weigh .ensures .1) in
-    let s = c .before .before .before .before .before .before .before .marks .ensures ∙ size-is m in (
-      omega (arith, s, size-le (c .before .before .before .before .before .before .before .before .before .before .before .before .before .before .before .before .before .args .n) (c .before .before .before .before .before .before .before .before .before .before .before .before .before .before .before .before .before .args .representatives .now)),
+    let d = subst (λ x. distanceOfBest x ≤ a .most + 8) (c .before .weighed2 .given .1) (c .before .before .before .weigh .ensures .1) in
+    let s = c .before .before .before .before .before .before .marks .ensures ∙ size-is m in (
+      omega (arith, s, size-le (a .n) (a .representatives .now)),
       p .length-of .odd .most,
       omega (arith, p .s-is, p .length-of .most),
       omega (arith, b .0, p .few),
@@ -73,14 +70,14 @@ returns-3 c = let f = c .before .before .before .before .before .before .before 
     (number-pos (c .before .weighed .given .0 .0)) (sym (ap weighedAs (c .before .weighed .given .1)) ∙ c .before .before .before .weigh .ensures .0 .is _ (f .marks w))
 
 same-length-4 : tie.Need-same-length-4
-same-length-4 c = c .before .before .before .before .before .before .before .before .before .before .before .before .before .wrong-representative .kept .1 .1 .1 .0
+same-length-4 c = c .before .before .before .before .before .before .before .before .before .before .before .before .wrong-representative .kept .1 .1 .1 .0
 
 returns-4 : tie.Need-returns-4
-returns-4 c = let f = c .before .before .before .before .before .before .before .before .before .before .before .before .before .wrong-representative .ensures in let w = c .before .before .before .before .before .before .before .before .before .before .if1 .left in let p = c .before .before .before .before .before .before .before .before .before .before .before .before .before .before .before .before .before .before .pre .0 in
-    let e = sym (ap weighedAs (c .before .before .before .weighed2 .given .1)) ∙ c .before .before .before .before .before .weigh .ensures .0 .is _ (f .marks w) in
-    let s = c .before .before .before .before .before .before .before .before .marks .ensures ∙ size-is (f .marks w) in
-    code-accepted _ _ (sym (f .is) ∙ w) (some-left _ _ _ s (c .before .before .before .before .before .before .before .if2 .left)) _ _ e
-    (c .record-of .ensures ∙ record-is _ _ _ _ _ (p .one) (p .s-is) s (c .before .certificate-at .ensures) refl e)
+returns-4 c = let f = c .before .before .before .before .before .before .before .before .before .before .before .before .wrong-representative .ensures in let w = c .before .before .before .before .before .before .before .before .before .if1 .left in let p = c .before .before .before .before .before .before .before .before .before .before .before .before .before .before .before .before .before .pre .0 in
+    let e = sym (ap weighedAs (c .before .before .weighed2 .given .1)) ∙ c .before .before .before .before .weigh .ensures .0 .is _ (f .marks w) in
+    let s = c .before .before .before .before .before .before .before .marks .ensures ∙ size-is (f .marks w) in
+    code-accepted _ _ (sym (f .is) ∙ w) (some-left _ _ _ s (c .before .before .before .before .before .before .if2 .left)) _ _ _ e
+    (c .record-of .ensures ∙ record-is _ _ _ _ _ (p .s-is) s e)
 
 pub judge-code-spec : {M : Type 1} → statement M
 judge-code-spec =
@@ -95,7 +92,6 @@ judge-code-spec =
     weigh-requires
     enum-known-weighed
     enum-known-weighed-2
-    certificate-at-requires
     record-of-requires
     same-length-3
     returns-3

@@ -1,7 +1,7 @@
 -- `judging::weigh::weigh` meets its contract: all certificates so far pass, and the best is the working one among them.
 use borrow.Author.Needs.{needs}
 use native.Mathlib.Omega.{arith}
-use mathlib.Core.Path.{ap, subst}
+use mathlib.Core.Path.{refl, ap, subst}
 use Prim.Native.Nat.{_+_, _-_, _≤_}
 use Rattle.certificate.specs.Rules.{checkedAs, distanceIn}
 use Rattle.judging.proofs.Weighing.{Weighing, weighing-start, weighing-stop, weighing-more, weighing-end, checked-same}
@@ -37,10 +37,7 @@ enum-known-checked-2 : tie.Need-enum-known-checked-2 Inv-loop μ-loop
 enum-known-checked-2 c = search needs
 
 better-requires : tie.Need-better-requires Inv-loop μ-loop
-better-requires c κs = let g = c .before .before .before .before .before .before .loop .inv .0 in (
-  omega (arith, g .small, g .ready .most-le),
-  omega (arith, subst (λ x. distanceIn x ≤ c .before .before .before .before .before .before .before .before .before .args .most + 8) (c .before .checked2 .given .1) (c .before .before .before .check .ensures .1), g .ready .most-le),
-)
+better-requires c κs = search needs
 
 add-i : tie.Need-add-i Inv-loop μ-loop
 add-i c = let g = c .before .before .before .before .before .before .before .loop .inv .0 in omega (arith, g .ready .few)
@@ -50,7 +47,7 @@ loop-less c = omega arith
 
 loop-again : tie.Need-loop-again Inv-loop μ-loop
 loop-again c = let l = c .before .before .before .before .before .before .before .loop in (
-  weighing-more (l .inv .0) (c .before .before .before .before .before .certificate-at .ensures) (omega arith)
+  weighing-more (l .inv .0) (c .before .before .before .before .before .certificate-at .ensures) refl (omega arith)
       (subst (λ x. distanceIn x ≤ c .before .before .before .before .before .before .before .before .before .before .args .most + 8) (c .before .before .checked2 .given .1) (c .before .before .before .before .check .ensures .1))
       (checked-same (ap checkedAs (c .before .before .checked2 .given .1)) (c .before .before .before .before .check .ensures .0)) (c .better .ensures),
   omega arith,

@@ -72,13 +72,13 @@ extern "C" {
 
 /* Bytes of stack that a call takes, at most and for any input, its return address included; what memset and memmove of your C
  * library take for themselves is not counted. tools/stack measures the archive and writes these lines: docs/STACK.md. */
-#define DUNEFORK_ENCODE_STACK 1624
-#define DUNEFORK_READ_STACK 1624
+#define DUNEFORK_ENCODE_STACK 1628
+#define DUNEFORK_READ_STACK 1628
 #define DUNEFORK_DECODE_STACK 79872
 #define DUNEFORK_DECODE_STACK_SMALL 33792 /* on a sheet whose s, the third number of its listing, is at most 8 */
-#define DUNEFORK_DECODE_STACK_SHORT 6912 /* on such a sheet whose certificates all have fewer than 64 terms (L) */
+#define DUNEFORK_DECODE_STACK_SHORT 6912 /* on such a sheet whose certificate at work has fewer than 64 terms (L) */
 #define DUNEFORK_DECODE_STACK_LEAST 4608 /* on such a sheet whose s is at most 6 */
-#define DUNEFORK_CARD_STACK 1816
+#define DUNEFORK_CARD_STACK 1820
 
 /* What a call returns where it refuses. The conditions are tried in this order; those of certificates (RANGE to TERM) for one
  * certificate after the other. examples/c/refusals.c draws each of them, docs/SHEETS.md says what to do about it. */

@@ -231,19 +231,23 @@ def several():
             (1, 2, 3), (1, 3, 2), (2, 3, 4), (3, 2, 1), (1, 1, 1), (2, 4, 4), (2, 3, 4, 4), (1, 3, 2, 3), (4, 3, 2, 1), (3, 4, 4, 3),
             (1, 1, 2, 3), (1, 1, 1, 2), (3, 3, 3, 4), (1, 4, 3, 4), (2, 1, 1, 3)]:
         yield sheet(15, [1, 3], *[run(1, count) for count in counts])
-    # a larger L with a smaller t
+    # more terms with no larger t
     yield sheet(17, [1], certificate(13, 1, 7, 3, 6), run(1, 2), certificate(13, 1, 7, 3, 9))
     yield sheet(17, [1], certificate(13, 1, 7, 3, 4), run(1, 2), certificate(13, 1, 7, 3, 5))
     # one d with two numbers of terms: d is 3, 3, 4, 4, 5, 5 for 4 to 9 terms
     for counts in [(i, j) for i in range(4, 10) for j in range(4, 10)] + [
-            (9, 8, 9), (8, 9, 8), (9, 8, 8), (9, 9, 8), (7, 8, 6), (6, 9, 8), (8, 7, 9), (9, 7, 8), (9, 9, 8, 8), (9, 8, 9, 8), (7, 6, 9, 8), (5, 4, 7, 6)]:
+            (9, 8, 9), (8, 9, 8), (9, 8, 8), (9, 9, 8), (7, 8, 6), (6, 9, 8), (8, 7, 9), (9, 7, 8), (9, 9, 8, 8), (9, 8, 9, 8), (7, 6, 9, 8),
+            (5, 4, 7, 6)]:
         yield sheet(17, [1], *[certificate(13, 1, 7, 3, count) for count in counts])
     # one t, or one d, by other numbers of terms: d is 5, 6, 5, 5, 6, 6
-    mixed = (run(1, 4), run(0, 5), certificate(0, 1, 5, 1, 7), certificate(0, 1, 5, 1, 8), certificate(0, 1, 5, 1, 9), certificate(0, 1, 5, 1, 10))
+    mixed = (run(1, 4), run(0, 5), *[certificate(0, 1, 5, 1, count) for count in (7, 8, 9, 10)])
     for first in mixed:
         for second in mixed:
             yield sheet(15, [0, 1, 3], first, second)
             yield sheet(15, [0, 1, 3], first, second, mixed[0])
+    # one d, L 8 and 4, of which 2 and 3 terms are not 0
+    yield sheet(7, [1], certificate(4, 1, 17, 1, 8), certificate(1, 1, 7, 1, 4))
+    yield sheet(7, [1], certificate(1, 1, 7, 1, 4), certificate(4, 1, 17, 1, 8))
 
 
 # ---- calls: a sheet, the kind, the input and the length of the buffer

@@ -9,8 +9,8 @@ from functools import lru_cache
 from itertools import combinations
 from math import comb, gcd
 
-from entry_answers import (ALL_BUT_0, BCH, SHEETS, answer, bits, certificate, common_factor, coset, encoded, generator, known, parts, period, remainder,
-                           series, sheet, word_bytes)
+from entry_answers import (ALL_BUT_0, BCH, SHEETS, answer, bits, certificate, common_factor, coset, encoded, generator, known, parts,
+                           period, remainder, series, sheet, word_bytes)
 
 LENGTHS = [n for n in range(3, 128, 2) if len(coset(1, n)) <= 12]
 MOST_PATTERNS, MOST_MESSAGE_BITS = 50000, 12
@@ -231,9 +231,6 @@ def chosen_sheets():
     yield sheet(127, ALL_BUT_0[:16], certificate(1, 1, 3, 1, 54))
     yield sheet(127, ALL_BUT_0, certificate(1, 1, 3, 1, 126))
     yield sheet(127, ALL_BUT_0, longest_of_all())
-    # two certificates of one d, the long one first
-    yield sheet(127, ALL_BUT_0, certificate(1, 1, 259, 128, 1015), certificate(1, 1, 3, 1, 126))
-    yield sheet(127, BCH, certificate(1, 16, 257, 1, 160), certificate(1, 1, 3, 1, 20))
 
 
 def longest_of_all():

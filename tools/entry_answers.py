@@ -210,10 +210,11 @@ def wider():
         yield sheet(85, [1], certificate(1, 1, f, 1, 1))
 
 
-# Sheets of request 2026-04: of one length and set, certificates of which several have one d, or one t; in every order.
+# Sheets of request 2026-04: for one code, certificates of which several have one d; in every order. Of the first two one has fewer terms,
+# and the other fewer that are not 0.
 SHORTER = (
-    (7, (1,), (1, 1, 7, 1, 4), (1, 1, 3, 1, 2), (1, 3, 3, 1, 2)), (7, (0, 1), (0, 1, 5, 1, 6), (0, 1, 3, 1, 3), (1, 1, 3, 1, 2)),
-    (15, (0, 1, 3), (0, 1, 5, 1, 9), (0, 1, 3, 1, 5), (1, 1, 3, 1, 4), (0, 2, 3, 1, 5)), (17, (1,), (13, 3, 3, 1, 3), (13, 1, 7, 3, 9)),
+    (7, (1,), (4, 1, 17, 1, 8), (1, 1, 7, 1, 4)), (7, (1,), (1, 1, 7, 1, 4), (1, 1, 3, 1, 2), (1, 3, 3, 1, 2)), (7, (0, 1), (0, 1, 5, 1, 6), (0, 1, 3, 1, 3), (1, 1, 3, 1, 2)),
+    (15, (0, 1, 3), (0, 1, 5, 1, 9), (0, 1, 3, 1, 5), (1, 1, 3, 1, 4), (0, 2, 3, 1, 5)), (17, (1,), (13, 3, 3, 1, 3), (13, 1, 7, 3, 7)),
     (127, ALL_BUT_0, (1, 1, 259, 128, 1015), (1, 1, 3, 1, 126)), (127, BCH, (1, 16, 257, 1, 160), (1, 1, 3, 1, 20)))
 
 

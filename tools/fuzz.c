@@ -668,6 +668,11 @@ static void report(uint64_t seed, double whole) {
                 printf("refusal %d never came from %s\n", r, entry_name[e]);
                 exit(1);
             }
+    for (int by = 0; by < 3; by++)
+        if (calls >= 100000 && !count_decided[by]) {
+            printf("no certificate was chosen by reason %d\n", by);
+            exit(1);
+        }
     printf("no difference\n");
 }
 

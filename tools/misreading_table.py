@@ -156,6 +156,11 @@ misread('d = L + 1', DISTANCE, 'self.terms + 1')
 misread('d without + 1', DISTANCE, '-((self.v - self.terms) // self.u)')
 misread('d at least 2', DISTANCE, 'max(2, %s)' % DISTANCE)
 misread('t = d/2, or (d - 1)/2 rounded up', '(self.d - 1) // 2', 'self.d // 2')
+COUNTED = '''def ones_of(c):
+    return sum(series(c.h, c.f, c.terms))
+
+
+def working('''
 BEATS = 'c.d > other.d or (c.d == other.d and c.terms < other.terms)'
 misread('working: the latest of equal ones', BEATS, BEATS.replace('<', '<='))
 misread('working: the first of the largest t, as before 2026-04', BEATS, 'c.t > other.t')
@@ -165,6 +170,8 @@ misread('working: the last of the largest d', BEATS, 'c.d >= other.d')
 misread('working: the largest d, then the most terms', BEATS, BEATS.replace('<', '>'))
 misread('working: the fewest terms, then the largest d', BEATS, 'c.terms < other.terms or (c.terms == other.terms and c.d > other.d)')
 misread('working: a larger d, or fewer terms', BEATS, 'c.d > other.d or c.terms < other.terms')
+misread('working: the largest d, then the fewest terms that are not 0', BEATS,
+        'c.d > other.d or (c.d == other.d and ones_of(c) < ones_of(other))', 'def working(', COUNTED)
 misread('working: the most terms', BEATS, 'c.terms > other.terms')
 misread('working: the first', BEATS, 'False')
 misread('working: the smallest d', BEATS, 'c.d < other.d')
@@ -310,6 +317,8 @@ misread('card: D by cosets', 'for i in sorted(defining_set(sheet))', 'for r in r
 misread('card: generator from the top down', 'for i in range(n - k + 1))', 'for i in range(n - k, -1, -1))')
 misread('card: certificates from 1', '(i, c.terms, c.d)', '(i + 1, c.terms, c.d)')
 misread('card: the working certificate from 1', '% (t, index)', '% (t, index + 1)')
+misread('card: the first of the largest t, as before 2026-04', '% (t, index)',
+        '% (t, max(range(len(certificates_of(sheet))), key=lambda i: certificates_of(sheet)[i].t))')
 misread('card: d for t', '% (t, index)', '% (record(sheet)[4], index)')
 misread('card: distance of the working one for all', '(i, c.terms, c.d)', '(i, c.terms, record(sheet)[4])')
 misread('card: k before n', "'code %d %d %d\\n' % (n, k, s)", "'code %d %d %d\\n' % (k, n, s)")

@@ -34,7 +34,7 @@ use Rattle.binary.proofs.Coefficient.{combine, combine-s, coefficient-c
 use Rattle.binary.proofs.Series.{register, term-is}
 use Rattle.binary.proofs.Digits.{shift-low}
 
-is-false : (b : Bool) → ¬ (b ≡ true) → b ≡ false
+pub is-false : (b : Bool) → ¬ (b ≡ true) → b ≡ false
 is-false true h = absurd (h refl)
 is-false false h = refl
 

@@ -9,13 +9,13 @@
 use mathlib.Core.Path.{_≡_, refl, sym, ap, _∙_, subst}
 use mathlib.Core.Logic.{_↔_}
 use mathlib.Core.Bool.{Bool}
-use mathlib.Core.List.{List, [], _∷_, _++_, flatMap}
-use Prim.Native.Nat.{ℕ, _-_, _^_, _<_}
+use mathlib.Core.List.{List, [], _∷_, _++_, flatMap, append-assoc, append-nil}
+use Prim.Native.Nat.{ℕ, zero, suc, _+_, _-_, _^_, _<_}
 use native.Mathlib.Decide.{ℕ-discrete}
 use native.Mathlib.Omega.{arith}
 use lib.Dec.{eqb, leb}
 use lib.ListN.{length, getD}
-use borrow.Author.Tests.{leb-true, leb-false, le-leb}
+use borrow.Author.Tests.{leb-true, leb-false, le-leb, lt-leb}
 use Rattle.field.specs.Search.{least, upTo}
 use Rattle.field.specs.Field.{orderOfTwo}
 use Rattle.field.proofs.Search.{least-is}
@@ -26,13 +26,27 @@ use Rattle.document.specs.Generator.{encodeMask, nearest}
 use Rattle.document.specs.Certificate.{distance, radius, working}
 use Rattle.document.specs.Judge.{dimensionOf, workingOf, workingCertificate}
 use Rattle.document.specs.Entry.{generatorOf, radiusOf, wrongSize, wordOf, changed, nearestMessage, decodedWord, decodeConditions, decodeEntry}
-use Rattle.document.specs.Card.{codeLine, zerosLine, generatorLine, certificateLine, radiusText, radiusLine, acceptedLines}
+use Rattle.document.specs.Card.{codeLine, zerosLine, generatorLine, certificateText, certificateLine, radiusText, radiusLine, acceptedLines}
 use Rattle.document.specs.Short.{stated, refusalsOf, judgeOf, decodeOf, listing}
-use Rattle.document.proofs.Working.{Ranking, First, least-first, working-iff, working-within, radius-most}
+use Rattle.document.proofs.Chain.{row-suc}
+use Rattle.document.proofs.Working.{Ranking, First, first-least, least-first, working-iff, working-within, radius-most}
 use Rattle.code.specs.Published.{IsAccepted, Working, WorkingIs}
 use Rattle.code.specs.Before.{WorkingBefore, workingBefore, alone, decodeWith}
 use Rattle.code.proofs.Refusing.{text-listed-iff}
 use Rattle.code.proofs.Worded.{working-said, record-said}
+
+-- of a row of texts one, and what stands before and after it
+around : (f : ℕ → List ℕ) (w k : ℕ) → (after : List ℕ) × (flatMap f (upTo (suc w + k)) ≡ flatMap f (upTo w) ++ f w ++ after)
+around f w zero =
+    let z : suc w + 0 ≡ suc w = omega arith in
+    ([], ap (λ (y : ℕ). flatMap f (upTo y)) z ∙ row-suc f w ∙ sym (append-nil (flatMap f (upTo w) ++ f w)))
+around f w (suc k) =
+    let z : suc w + suc k ≡ suc (suc w + k) = omega arith in
+    let m = around f w k in (
+      m .0 ++ f (suc w + k),
+      ap (λ (y : ℕ). flatMap f (upTo y)) z ∙ row-suc f (suc w + k) ∙ ap (λ l. l ++ f (suc w + k)) (m .1)
+          ∙ append-assoc (flatMap f (upTo w) ++ f w) (m .0) (f (suc w + k)),
+    )
 
 module _ (sheet : List ℕ) where
   abbrev x : Stated
@@ -66,11 +80,24 @@ module _ (sheet : List ℕ) where
     pub record-chosen : WorkingIs x w d t terms
     record-chosen = subst (λ v. WorkingIs x (getD v 3 0) (getD v 4 0) (getD v 5 0) (getD v 6 0)) same (working-said sheet accepted)
 
-    pub card-chosen : (lines : List ℕ) × (listing sheet ≡ lines ++ radiusText t w)
-    unfolding acceptedLines radiusLine radiusOf
+    pub card-chosen : (above between : List ℕ) × (listing sheet ≡ above ++ certificateText w terms d ++ between ++ radiusText t w)
+    unfolding acceptedLines certificateLine radiusLine radiusOf workingCertificate
     card-chosen =
-        let lines : List ℕ = codeLine x ++ zerosLine x ++ generatorLine x ++ flatMap (certificateLine x) (upTo count) in
-        (lines, text-listed-iff sheet .1 accepted ∙ ap (λ v. lines ++ radiusText (getD v 5 0) (getD v 3 0)) same)
+        let l : workingOf x < count = working-said sheet accepted .working .below in
+        let m = around (certificateLine x) (workingOf x) (count - suc (workingOf x)) in
+        let head : List ℕ = codeLine x ++ zerosLine x ++ generatorLine x in
+        let first : List ℕ = flatMap (certificateLine x) (upTo (workingOf x)) in
+        let last : List ℕ = radiusText (radiusOf x) (workingOf x) in
+        let own-line : List ℕ = certificateLine x (workingOf x) in
+        let k : suc (workingOf x) + (count - suc (workingOf x)) ≡ count = omega arith in (
+          head ++ first,
+          m .0,
+          text-listed-iff sheet .1 accepted
+              ∙ ap (λ (c : ℕ). head ++ flatMap (certificateLine x) (upTo c) ++ last) (sym k)
+              ∙ ap (λ p. head ++ p ++ last) (m .1)
+              ∙ ap (λ p. p ++ last) (sym (append-assoc head (first ++ own-line) (m .0)) ∙ ap (λ p. p ++ m .0) (sym (append-assoc head first own-line)))
+              ∙ ap (λ v. head ++ first ++ certificateText (getD v 3 0) (getD v 6 0) (getD v 4 0) ++ m .0 ++ radiusText (getD v 5 0) (getD v 3 0)) same,
+        )
 
 -- ---- the choice before
 noLarger : (ℕ → ℕ) → ℕ → ℕ → Bool
@@ -91,15 +118,28 @@ module _ (x : Stated) where
   unfolding noLarger
   first-before h = least-first (by-number t) (length (x .certificates)) h
 
-  pub before-said : 0 < length (x .certificates) → WorkingBefore x (workingBefore x)
+  before-is : 0 < length (x .certificates) → WorkingBefore x (workingBefore x)
   unfolding noLarger
-  before-said h =
+  before-is h =
       let f = first-before h in
       record {
         below = f .below;
         largest = λ i l. leb-true (t i) (t (workingBefore x)) (f .best i l);
         first = λ i l. leb-false (t (workingBefore x)) (t i) (f .fresh i l);
       }
+
+  pub before-said : 0 < length (x .certificates) → (w : ℕ) → (w ≡ workingBefore x) ↔ WorkingBefore x w
+  unfolding noLarger
+  before-said h w = (
+    λ q. subst (WorkingBefore x) (sym q) (before-is h),
+    λ b. sym
+        (first-least (by-number t)
+        (record {
+          below = b .below;
+          best = λ i l. le-leb (t i) (t w) (b .largest i l);
+          fresh = λ i l. lt-leb (t w) (t i) (b .first i l);
+        })),
+  )
 
   -- with no certificate both are the index 0
   none-same : length (x .certificates) ≡ 0 → workingBefore x ≡ workingOf x
@@ -116,7 +156,7 @@ module _ (x : Stated) where
       go : Dec (length (x .certificates) ≡ 0) → radius (certificateAt x (workingBefore x)) ≡ radius (workingCertificate x)
       go (yes z) = ap (λ (i : ℕ). radius (certificateAt x i)) (none-same z)
       go (no z) =
-          let b = before-said (omega arith) in
+          let b = before-is (omega arith) in
           omega (arith, b .largest (workingOf x) (working-within x (omega arith)), radius-most x (workingBefore x) (b .below))
 
 -- ---- decoding, by t

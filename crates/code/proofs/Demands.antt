@@ -32,7 +32,7 @@ use Rattle.document.specs.Certificate.{rule3, distance, radius}
 use Rattle.document.specs.Judge.{certificateConditions, dimensionOf, workingOf, workingCertificate}
 use Rattle.document.specs.OtherTest.{conditionsWith}
 use Rattle.document.specs.Entry.{CodewordOf, generatorOf, radiusOf, wordOf, changed}
-use Rattle.document.specs.Card.{refusedLine, acceptedLines, radiusText}
+use Rattle.document.specs.Card.{refusedLine, acceptedLines, certificateText, radiusText}
 use Rattle.document.specs.Short.{short, stated, refusalsOf, judgeOf, encodeOf, readOf, decodeOf, listing, cardOf}
 use Rattle.document.proofs.Meaning.{differ-count}
 use Rattle.document.proofs.Tested.{conditions-are}
@@ -157,7 +157,7 @@ module _ (sheet : List ℕ) where
 
   -- ---- demand 3: for every accepted sheet, every word of the right length without spare bits, and every output of the right length
   pub record Demand3 : Type 0 where
-    -- d and t are those of the working certificate, and judging returns them
+    -- d, t and the number of terms are those of the working certificate, and judging returns them
     pub working : IsAccepted sheet → WorkingIs x (workingOf x) d t (certificateAt x (workingOf x) .L)
     pub judged : IsAccepted sheet
         → judgeOf sheet
@@ -227,14 +227,14 @@ module _ (sheet : List ℕ) where
     -- returns, the index in it is that of the working certificate, and d, t and the number of terms are its own
     pub one-certificate : (n′ k′ s′ w d′ t′ terms : ℕ) → judgeOf sheet ≡ returned (n′ ∷ k′ ∷ s′ ∷ w ∷ d′ ∷ t′ ∷ terms ∷ [])
         → WorkingIs x w d′ t′ terms
-    -- "`linkcard` follows": its last line has the same t and index
+    -- "`linkcard` follows": its last line has the same t and index, and the line of that certificate the same number of terms and d
     pub linkcard : (n′ k′ s′ w d′ t′ terms : ℕ) → judgeOf sheet ≡ returned (n′ ∷ k′ ∷ s′ ∷ w ∷ d′ ∷ t′ ∷ terms ∷ [])
-        → (lines : List ℕ) × (listing sheet ≡ lines ++ radiusText t′ w)
+        → (above between : List ℕ) × (listing sheet ≡ above ++ certificateText w terms d′ ++ between ++ radiusText t′ w)
     -- "The largest d always has the largest t": of two certificates, and so of all on a sheet
     pub rises : (c e : Certificate) → distance c ≤ distance e → radius c ≤ radius e
     pub largest-radius : (i : ℕ) → i < length (x .certificates) → radius (certificateAt x i) ≤ t
-    -- what the choice was: the first with the largest t
-    pub before : IsAccepted sheet → WorkingBefore x (workingBefore x)
+    -- what the choice was: the first with the largest t, and no other
+    pub before : IsAccepted sheet → (w : ℕ) → (w ≡ workingBefore x) ↔ WorkingBefore x w
     -- "so t stays what it was", of every sheet
     pub radius-still : radius (certificateAt x (workingBefore x)) ≡ t
     -- decodeWith says how decoding goes by a chosen certificate: by the working one it is decoding
@@ -344,7 +344,7 @@ request-04 sheet = record {
   linkcard = λ n k s w d t terms e. card-chosen sheet e;
   rises = radius-rises;
   largest-radius = radius-most (stated sheet);
-  before = λ e. before-said (stated sheet) (omega (arith, working-said sheet e .working .below));
+  before = λ e w. before-said (stated sheet) (omega (arith, working-said sheet e .working .below)) w;
   radius-still = radius-still (stated sheet);
   in-its-place = decoded-chosen sheet;
   decoded-still = decoded-still sheet;

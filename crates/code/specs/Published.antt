@@ -1,5 +1,5 @@
--- What document 01 publishes, with document 02's layout of words, rule 3 and choice of a certificate, as statements: the words in which proofs/Demands.antt says the
--- three demands and the requests. The conditions of a certificate have no search in them; s, k, the generator and the working certificate,
+-- What document 01 publishes, with document 02's layout of words, rule 3 and choice of a certificate, as statements: the words in which
+-- proofs/Demands.antt says the three demands and the requests. The conditions of a certificate have no search in them; s, k, the generator and the working certificate,
 -- which the definitions search for or compute, are named, and fields of the demands say what they are (degree, dimension, generator, working).
 --
 --   IsAccepted sheet                 judging refuses nothing

@@ -216,6 +216,7 @@ module _ (E : Replies) where
       ∷ record-of (twoCertificates 15 (0 ∷ 1 ∷ 3 ∷ []) (certificateOf 0 1 3 0 1 5) (certificateOf 1 1 3 0 1 4))  -- fewest terms before largest d, or next after largest t
       ∷ record-of (threeCertificates 15 (0 ∷ 1 ∷ 3 ∷ []) (certificateOf 0 1 5 0 1 9) (certificateOf 0 1 3 0 1 5) (certificateOf 1 1 3 0 1 4))  -- the first, or the last, at work: d is 6, 6 and 5
       ∷ record-of (threeCertificates 7 (1 ∷ []) (certificateOf 1 1 7 0 1 4) (certificateOf 1 1 3 0 1 2) (certificateOf 1 3 3 0 1 2))  -- the latest of equal ones that beat the first: d is 3, 3 and 3
+      ∷ record-of (twoCertificates 7 (1 ∷ []) (certificateOf 4 1 17 0 1 8) (certificateOf 1 1 7 0 1 4))  -- terms that are 0 not counted: of 8 there are 2 others, of 4 there are 3
       ∷ record-of (twoCertificates 7 (1 ∷ []) (certificateOf 1 1 3 0 1 2) (certificateOf 1 1 3 0 1 3))  -- the first alone judged
       ∷ record-of (twoCertificates 7 (1 ∷ []) (certificateOf 1 1 3 0 1 3) (certificateOf 1 0 3 0 1 2))  -- 7 tried for both before 10 for the first
       ∷ record-of (oneCertificate 15 (1 ∷ []) 1 3 3 1 1)  -- z not held to be coprime to n
@@ -256,6 +257,7 @@ nearExpected =
     ∷ (0 ∷ 15 ∷ 6 ∷ 4 ∷ 0 ∷ 6 ∷ 2 ∷ 5 ∷ [])
     ∷ (0 ∷ 15 ∷ 6 ∷ 4 ∷ 1 ∷ 6 ∷ 2 ∷ 5 ∷ [])
     ∷ (0 ∷ 7 ∷ 4 ∷ 3 ∷ 1 ∷ 3 ∷ 1 ∷ 2 ∷ [])
+    ∷ (0 ∷ 7 ∷ 4 ∷ 3 ∷ 1 ∷ 3 ∷ 1 ∷ 4 ∷ [])
     ∷ (10 ∷ [])
     ∷ (10 ∷ [])
     ∷ (7 ∷ [])

@@ -2,6 +2,7 @@
 --
 --   first-true, first-false      the first of the conditions holds, or does not
 --   Quiet, first-quiet, quiet-append, first-keep      the first of two lists of conditions
+--   row-suc      a list for each number below i, and for one number more
 --   each, flat, flat-all, flat-suc, four-quiet, flat-stop      the conditions of the certificates in turn, by their indices
 use mathlib.Core.Path.{_≡_, refl, sym, ap, _∙_}
 use mathlib.Core.Bool.{Bool, true, false}
@@ -54,7 +55,7 @@ each most x i = certificateConditions most (x .n) (x .representatives) (certific
 abbrev pub flat : ℕ → Stated → ℕ → Conditions
 flat most x i = flatMap (each most x) (upTo i)
 
-flat-last : (f : ℕ → Conditions) (l : List ℕ) (x : ℕ) → flatMap f (l ++ (x ∷ [])) ≡ flatMap f l ++ f x
+flat-last : {A : Type 0} (f : ℕ → List A) (l : List ℕ) (x : ℕ) → flatMap f (l ++ (x ∷ [])) ≡ flatMap f l ++ f x
 unfolding flatMap
 flat-last f [] x = append-nil (f x)
 flat-last f (y ∷ l) x = ap (λ m. f y ++ m) (flat-last f l x) ∙ sym (append-assoc (f y) (flatMap f l) (f x))
@@ -72,8 +73,12 @@ flat-all most x =
     ap (flatMap (certificateConditions most (x .n) (x .representatives))) (by-index (x .certificates) _)
     ∙ flat-map (certificateConditions most (x .n) (x .representatives)) (λ i. getD (x .certificates) i _) (upTo (length (x .certificates)))
 
+-- a list for each number below i, and for one number more
+pub row-suc : {A : Type 0} (f : ℕ → List A) (i : ℕ) → flatMap f (upTo (suc i)) ≡ flatMap f (upTo i) ++ f i
+row-suc f i = ap (flatMap f) (upTo-suc i) ∙ flat-last f (upTo i) i
+
 pub flat-suc : (most : ℕ) (x : Stated) (i : ℕ) → flat most x (suc i) ≡ flat most x i ++ each most x i
-flat-suc most x i = ap (flatMap (each most x)) (upTo-suc i) ∙ flat-last (each most x) (upTo i) i
+flat-suc most x i = row-suc (each most x) i
 
 pub four-quiet : (most : ℕ) (x : Stated) (i : ℕ) → firstOf (each most x i) ≡ 0 → Quiet (each most x i)
 unfolding certificateConditions

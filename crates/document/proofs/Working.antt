@@ -2,8 +2,8 @@
 --
 --   Ranking, First, first-one, first-new, first-same, first-least, least-first      the first of the best, in any ranking, one index more at a time
 --   beats-iff, unbeaten-iff      when a certificate beats another, and when it does not
---   ranked               certificates are ranked by that
---   working-first, working-within      the working certificate is the first of the best
+--   unbeaten, ranked     certificate j does not beat certificate i; they are ranked by that
+--   working-first, working-is, working-within      the working certificate is the first of the best, and nothing else is
 --   working-iff          it is the one with the largest d, then the fewest terms, then the earliest, and no other is
 --   radius-rises, radius-most      the largest d has the largest t: that of every other on the sheet is at most the sheet's t
 use mathlib.Core.Path.{_≡_, refl, sym, _∙_, subst}
@@ -17,6 +17,7 @@ use lib.ListN.{length}
 use Rattle.field.specs.Search.{least, upTo, every}
 use Rattle.field.proofs.Search.{least-is, least-unique, every-of, true-ne-false}
 use Rattle.binary.proofs.Coprime.{every-not}
+use Rattle.binary.proofs.Meaning.{is-false}
 use Rattle.document.specs.Sheet.{Certificate, Stated, certificateAt}
 use Rattle.document.specs.Certificate.{distance, radius, beats, working}
 use Rattle.document.specs.Judge.{workingOf, workingCertificate}
@@ -33,10 +34,6 @@ pub record First (noBetter : ℕ → ℕ → Bool) (i w : ℕ) : Type 0 where
   pub below : w < i
   pub best : (e : ℕ) → e < i → noBetter e w ≡ true
   pub fresh : (c : ℕ) → c < w → noBetter w c ≡ false
-
-is-false : (b : Bool) → ¬ (b ≡ true) → b ≡ false
-is-false true n = absurd (n refl)
-is-false false n = refl
 
 module _ {noBetter : ℕ → ℕ → Bool} (r : Ranking noBetter) where
   itself : (i : ℕ) → noBetter i i ≡ true
@@ -123,7 +120,7 @@ unbeaten-iff c e = (
 
 -- ---- all of them
 module _ (at : ℕ → Certificate) where
-  abbrev unbeaten : ℕ → ℕ → Bool
+  abbrev pub unbeaten : ℕ → ℕ → Bool
   unbeaten j i = not (beats (at j) (at i))
 
   pub ranked : Ranking unbeaten

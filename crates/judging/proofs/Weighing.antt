@@ -31,11 +31,11 @@ use Rattle.document.specs.Certificate.{distance, beats, working}
 use Rattle.document.specs.Judge.{workingOf, workingCertificate}
 use Rattle.sheet.specs.Stage.{Marks, certificateIn, certificatesIn}
 use Rattle.certificate.specs.Rules.{checkOf, CheckedBy}
-use Rattle.judging.specs.Weigh.{statedAs, Weighable, WeighedBy, weighOf, chosen, bestOf}
+use Rattle.judging.specs.Weigh.{statedAs, Weighable, WeighedBy, weighOf, chosen, better, bestOf}
 use Rattle.document.proofs.Sane.{settle-number, distance-pos}
 use Rattle.document.proofs.Stated.{tabulated-at, tabulated-length}
 use Rattle.document.proofs.Chain.{Quiet, silent, first-quiet, quiet-append, each, flat, flat-all, flat-suc, four-quiet, flat-stop}
-use Rattle.document.proofs.Working.{First, first-one, first-new, first-same, ranked, working-is}
+use Rattle.document.proofs.Working.{First, first-one, first-new, first-same, unbeaten, ranked, working-is}
 
 pub number-pos : (r : Refusal) → 0 < numberOf r
 number-pos SheetLength = omega arith
@@ -62,17 +62,10 @@ settle-zero : (v w o : List ℕ) → settle 0 v w o .0 ≡ returned v
 unfolding settle
 settle-zero v w o = refl
 
--- certificate j of what is stated does not beat certificate i
-abbrev unbeaten : Stated → ℕ → ℕ → Bool
-unbeaten x j i = not (beats (certificateAt x j) (certificateAt x i))
-
 -- ---- the better of two, by the tests of the code
 module _ (best : Best) (i e terms : ℕ) where
   abbrev new : Best
   new = record { index = i; d = e; terms = terms }
-
-  abbrev larger : Bool
-  larger = ltb (best .d) e
 
   abbrev shorter : Bool
   shorter = eqb e (best .d) && ltb terms (best .terms)
@@ -110,7 +103,7 @@ pub record WeighedUpTo (most : ℕ) (x : Stated) (i : ℕ) (best : Best) : Type 
   pub quiet : Quiet (flat most x i)
   pub none : i ≡ 0 → best .d ≡ 0
   pub some : 0 < i
-      → First (unbeaten x) i (best .index) × (best .d ≡ distance (certificateAt x (best .index))) × (best .terms ≡ certificateAt x (best .index) .L)
+      → First (unbeaten (certificateAt x)) i (best .index) × (best .d ≡ distance (certificateAt x (best .index))) × (best .terms ≡ certificateAt x (best .index) .L)
 
 flat-none : (most : ℕ) (x : Stated) → flat most x 0 ≡ []
 unfolding flatMap upTo
@@ -155,7 +148,7 @@ module _ (most : ℕ) (x : Stated) where
           subst (λ (y : ℕ). Quiet (flat most x y)) (sym (add-one i))
           (subst Quiet (sym (flat-suc most x i)) (quiet-append (g .quiet) (four-quiet most x i zero-first)));
       none = λ h. absurd (omega arith);
-      some = λ h. pick (ℕ-discrete i 0) better refl;
+      some = λ h. pick (ℕ-discrete i 0) (better best e terms) refl;
     }
       where
         zero-first : firstOf (each most x i) ≡ 0
@@ -175,21 +168,17 @@ module _ (most : ℕ) (x : Stated) where
         new : Best
         new = record { index = i; d = e; terms = terms }
 
-        -- the test of the code
-        better : Bool
-        better = ltb (best .d) e || (eqb e (best .d) && ltb terms (best .terms))
-
         Goal : Best → Type 0
-        Goal b = First (unbeaten x) (i + 1) (b .index) × (b .d ≡ distance (certificateAt x (b .index))) × (b .terms ≡ certificateAt x (b .index) .L)
+        Goal b = First (unbeaten (certificateAt x)) (i + 1) (b .index) × (b .d ≡ distance (certificateAt x (b .index))) × (b .terms ≡ certificateAt x (b .index) .L)
 
-        -- where there is a best so far, it is the definition's
-        better-is : 0 < i → better ≡ beats (certificateAt x i) (certificateAt x (best .index))
+        -- where there is a best so far, the code's test is the definition's
+        better-is : 0 < i → better best e terms ≡ beats (certificateAt x i) (certificateAt x (best .index))
         better-is h =
             let s = g .some h in
             λ k. ltb (s .1 k) (e-is k) || (eqb (e-is k) (s .1 k) && ltb (l k) (s .2 k))
 
-        pick : Dec (i ≡ 0) → (b : Bool) → better ≡ b → Goal (chosen b new best)
-        pick (yes z) true p = (subst (λ (y : ℕ). First (unbeaten x) (y + 1) y) (sym z) (first-one (ranked (certificateAt x))), e-is, l)
+        pick : Dec (i ≡ 0) → (b : Bool) → better best e terms ≡ b → Goal (chosen b new best)
+        pick (yes z) true p = (subst (λ (y : ℕ). First (unbeaten (certificateAt x)) (y + 1) y) (sym z) (first-one (ranked (certificateAt x))), e-is, l)
         pick (yes z) false p =
             let d : best .d ≡ 0 = g .none z in
             absurd (true-ne-false (ap (λ b. b || (eqb e (best .d) && ltb terms (best .terms))) (lt-ltb (best .d) e (omega (arith, e-pos)))) p)
@@ -206,7 +195,7 @@ module _ (most : ℕ) (x : Stated) where
     end c p =
         let s = g .some p in
         let w : working (length (x .certificates)) (certificateAt x) ≡ best .index =
-        working-is (certificateAt x) (subst (λ (y : ℕ). First (unbeaten x) y (best .index)) c (s .0)) in
+        working-is (certificateAt x) (subst (λ (y : ℕ). First (unbeaten (certificateAt x)) y (best .index)) c (s .0)) in
         let f : firstOf (flat most x (length (x .certificates))) ≡ 0 =
         ap (λ (y : ℕ). firstOf (flat most x y)) (sym c) ∙ quiet-first (g .quiet) in
         sym
@@ -246,7 +235,7 @@ module _ {most n count i : ℕ} {best : Best} {w z : List ℕ} (g : Weighing mos
       → CheckedBy most n c z (returned (e ∷ [])) → new ≡ bestOf best i e terms → Weighing most n count (i + 1) new w z
   weighing-more {e} {terms} {new} q l h top k new-is = subst (λ b. Weighing most n count (i + 1) b w z) (sym new-is) (record {
     ready = g .ready;
-    small = bounded (ltb (best .d) e || (eqb e (best .d) && ltb terms (best .terms)));
+    small = bounded (better best e terms);
     weighed = λ reps m. more most (statedAs n reps count w) (g .weighed reps m)
         (l ∙ ap (λ (c : Certificate). c .L) (q ∙ sym (stated-certificate n reps count w i h))) (by-check q h k reps m);
   })

@@ -1,7 +1,8 @@
 -- What the inner functions of judging pass to each other. No entry's contract cites this file.
 --
 --   statedAs n reps count w      what is stated, as the code holds it: certificates in a slice of numbers
---   bestOf, weighedAs, distanceOfBest      the best certificate so far, and what the weighing of all answers
+--   chosen, better, bestOf      the best certificate so far
+--   weighedAs, distanceOfBest   what the weighing of all answers
 --   weighOf, Weighable, WeighedBy      what the weighing of all certificates is to say, needs, and says
 --   recorded                     the record by the code's numbers
 --   statedConditions, judgeStated, Judgeable      refusals 5 to 10, and what they need
@@ -31,10 +32,13 @@ abbrev pub chosen : Bool → Best → Best → Best
 chosen true a b = a
 chosen false a b = b
 
--- certificate i, of distance e and so many terms, against the best so far
+-- a certificate of distance e and so many terms is better than the best so far
+abbrev pub better : Best → ℕ → ℕ → Bool
+better best e terms = ltb (best .d) e || (eqb e (best .d) && ltb terms (best .terms))
+
+-- the best so far and certificate i
 abbrev pub bestOf : Best → ℕ → ℕ → ℕ → Best
-bestOf best i e terms =
-    chosen (ltb (best .d) e || (eqb e (best .d) && ltb terms (best .terms))) (record { index = i; d = e; terms = terms }) best
+bestOf best i e terms = chosen (better best e terms) (record { index = i; d = e; terms = terms }) best
 
 abbrev pub weighedAs : Weighed → Answer
 weighedAs (Working b) = returned (b .index ∷ b .d ∷ b .terms ∷ [])

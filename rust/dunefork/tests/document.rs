@@ -1,5 +1,5 @@
-//! Document 01's cases and refusals, as far as they go through these three functions, with words laid out as document 02 says.
-use dunefork::{bytes, decode, encode, read, Error};
+//! Document 01's cases and refusals, as far as they go through these functions, with words laid out as document 02 says.
+use dunefork::{bytes, card, decode, encode, read, Error, CARD_BYTES};
 
 /// A sheet with one certificate b, z, f, h, L.
 fn sheet(n: u8, representatives: &[u8], [b, z, f, h, terms]: [u8; 5]) -> Vec<u8> {
@@ -144,6 +144,21 @@ fn a_period_that_is_not_coprime_to_n() {
         assert_eq!((answer, word >> 11), (Ok(()), message));
         for (i, j) in (0..21).flat_map(|j| (0..j).map(move |i| (i, j))) {
             assert_eq!(decoded(&sheet, 21, word ^ 1 << i ^ 1 << j), (Ok(2), word));
+        }
+    }
+}
+
+/// Request 2026-04: the largest distance, then the fewest terms, then the first. The order on the sheet changes no decoded word.
+#[test]
+fn the_shorter_certificate_of_two() {
+    let long = [1, 1, 7, 0, 1, 0, 4, 0];
+    let short = [1, 1, 3, 0, 1, 0, 2, 0];
+    for (first, second, working) in [(long, short, 1), (short, long, 0), (short, short, 0)] {
+        let sheet = [&[27, 0, 7, 1, 10, 0, 2, 0, 11, 0, 1][..], &first, &second].concat();
+        let mut text = [0; CARD_BYTES];
+        assert!(card(&sheet, &mut text).ends_with(&format!("\nradius 1 from cert {working}\n")));
+        for word in 0..128 {
+            assert_eq!(decoded(&sheet, 7, word), decoded(&sheet_h(), 7, word));
         }
     }
 }

@@ -1,7 +1,8 @@
 -- 2026-04: the working certificate in the words of specs/Published.antt, the choice that it was, and that nothing decodes otherwise.
 --
 --   working-only       the working certificate is the one with the largest d, then the fewest terms, then the earliest
---   record-chosen      judging's record is that one's; card-chosen: and so is the last line of the listing
+--   around             of a row of texts one, and what stands before and after it
+--   record-chosen      judging's record is that one's; card-chosen: and so are its own line and the last one of the listing
 --   before-said        the choice before: the first with the largest t
 --   radius-still       t is what it was
 --   decoded-by         decoding sees no more of a certificate than its t

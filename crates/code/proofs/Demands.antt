@@ -210,7 +210,7 @@ module _ (sheet : List ℕ) where
     -- a period coprime to n suffices
     pub period : IsAccepted sheet ⊎ (6 < judgeOf sheet .number) → (i : ℕ) → i < length (x .certificates) → Rule1 (x .n) (certificateAt x i)
         → PeriodCoprime (x .n) (certificateAt x i) → Rule3 (x .n) (certificateAt x i)
-    -- so a sheet that was accepted is accepted still, with the same record
+    -- so a sheet that was accepted is accepted still, and rule 3 changes nothing of its record; which certificate works is Request04's
     pub accepted-still : judgeBefore sheet .number ≡ 0 → judgeOf sheet ≡ judgeBefore sheet
     -- and judging answers what it did wherever that was not 9
     pub answered-still : judgeBefore sheet .number ≢ 9 → judgeOf sheet ≡ judgeBefore sheet

@@ -33,7 +33,7 @@ pub record PeriodCoprime (n : ℕ) (c : Certificate) : Type 0 where
 abbrev pub periodCoprime : ℕ → Certificate → Bool
 periodCoprime n c = coprime (period (c .f)) n
 
--- all conditions as they are, with it in rule 3's place (document/specs/OtherTest.antt)
+-- all conditions as they are, with it in rule 3's place (document/specs/OtherTest.antt); the record is that of the certificate which works now
 abbrev pub judgeBefore : List ℕ → Answer
 judgeBefore sheet = judgeEntry (conditionsWith periodCoprime short sheet) (stated sheet)
 

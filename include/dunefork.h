@@ -18,15 +18,18 @@
  * The archive is for x86-64 and ELF (Linux), position independent, and calls no function of the C library but memset, memmove
  * and memcpy. There is nothing to set up and nothing to free.
  *
- * Calls. Every call is handed the sheet's bytes and judges the sheet first, dunefork_card after the length of `out`. Nothing is kept between calls: no heap, no global
- * state. Calls from several threads need no lock, as long as no other thread writes to a buffer that a call uses.
- *     Each buffer goes with its length in bytes, and nothing outside is read or written. A length must be exact: an input or an
- * `out` that is too long is refused like one that is too short. A pointer may be any address, also a null one, where its length is 0.
- *     `out` must not overlap the sheet or the input, so a word cannot be decoded in place. If it does, even by one byte, nothing that
+ * Calls. Every call but dunefork_shown_length is handed the sheet's bytes and judges the sheet first, dunefork_card after the length
+ * of `out`. Nothing is kept between calls: no heap, no global state. Calls from several threads need no lock, as long as no other
+ * thread writes to a buffer that a call uses.
+ *     Each buffer goes with its length in bytes, and nothing outside is read or written. A length must be exact, but for
+ * dunefork_shown_length: an input, `out`, `zeros` or `ones` that is too long is refused like one that is too short. A pointer may be any
+ * address, also a null one, where its length is 0.
+ *     `out` must not overlap the sheet or the input, so a word cannot be decoded in place. Nor may `zeros` and `ones`, the buffers that
+ * dunefork_decode_marked writes, overlap each other, the sheet, the word or the marks. If one does, even by one byte, nothing that
  * is said here holds of the call: it may return any number, and read and write outside the buffers. No call checks for that. The
- * sheet and the input are only read, and may overlap.
- *     A return of 0 or more says that it is done. A negative one is a refusal, minus the number that document 01 gives it, and
- * then `out` is as it was, every byte of it.
+ * sheet and the inputs are only read, and may overlap.
+ *     A return of 0 or more says that it is done. A negative one is a refusal, minus the number that document 01 or 02 gives it, and
+ * then `out`, or `zeros` and `ones`, are as they were, every byte of them.
  *
  * Words and messages. A word of n places takes DUNEFORK_BYTES(n) bytes and a message of k places DUNEFORK_BYTES(k). They lie in
  * their bytes in opposite ways:
@@ -35,7 +38,21 @@
  *     message   place i has weight 2^(i mod 8) in byte i div 8, so it is message[i / 8] >> i % 8 & 1: the lowest bit of each byte
  *               is its first place, and the spare bits are the high bits of the last byte.
  * With n = 7 and k = 4 the word 80 has place 0 alone, and 01 a spare bit; the message 01 has place 0 alone, and 10 a spare bit.
- * Spare bits must be 0 in what you hand over, and are 0 in what you get. n is the sheet's byte 2; dunefork_card tells n, k and t.
+ * Spare bits must be 0 in what you hand over, and are 0 in what you get. n is the sheet's byte 2; dunefork_card tells n, k, d and t.
+ *
+ * Marked places. A modem may know some places of a word only as "0 or 1". dunefork_decode_marked is told which, by a second word
+ * that has a 1 in each of them, and then corrects more than dunefork_decode: e wrong places and r marked ones as long as 2 e + r is at
+ * most d - 1, so d - 1 marked places if no other is wrong. It tries the word with 0 in all marked places and with 1 in all of them, each
+ * in a buffer of its own, and dunefork_shown picks the one that holds the answer (examples/c/marked.c has it in full):
+ *
+ *     uint8_t marks[DUNEFORK_BYTES(15)], zeros[DUNEFORK_BYTES(15)], ones[DUNEFORK_BYTES(15)];
+ *
+ *     int32_t answer = dunefork_decode_marked(sheet, sizeof sheet, word, sizeof word, marks, sizeof marks, zeros, sizeof zeros,
+ *                                             ones, sizeof ones);
+ *     if (answer >= 0) {
+ *         int32_t wrong = answer / 2;  // unmarked places that were wrong
+ *         const uint8_t *right = dunefork_shown((size_t)answer % 2, zeros, ones);  // the codeword: DUNEFORK_BYTES(15) bytes
+ *     }
  *
  * The sheet. 16-bit numbers have their low byte first. The folder sheets/ has some; docs/SHEETS.md says how to write one.
  *     bytes 0-1  length of the whole sheet, 10 + R + 8 C
@@ -50,9 +67,10 @@
  *     then C certificates of 8 bytes: start b, step z, mask f (two bytes), mask h, a byte 0, number of terms L (two bytes).
  * The program linkcard tells what a sheet amounts to: tools/linkcard sheets/bch-15-7.hex.
  *
- * What is proved. For every sheet, input and buffer of any length, `out` apart from the other two, the code behind these functions
- * replies and writes exactly what its definitions say (crates/document/specs, and crates/dunefork/specs for the number returned). The
- * compiler's back end, the calling convention and this header are not proved, nor are time, stack and secrecy.
+ * What is proved. For every sheet, input and buffer of any length, those that are written apart from all others, the code behind
+ * these functions replies and writes exactly what its definitions say (crates/document/specs, and crates/dunefork/specs for the number
+ * returned). The compiler's back end, the calling convention and this header with its dunefork_shown are not proved, nor are time, stack
+ * and secrecy.
  */
 #ifndef DUNEFORK_H
 #define DUNEFORK_H
@@ -78,6 +96,11 @@ extern "C" {
 #define DUNEFORK_DECODE_STACK_SMALL 33792 /* on a sheet whose s, the third number of its listing, is at most 8 */
 #define DUNEFORK_DECODE_STACK_SHORT 6912 /* on such a sheet whose certificate at work has fewer than 64 terms (L) */
 #define DUNEFORK_DECODE_STACK_LEAST 4608 /* on such a sheet whose s is at most 6 */
+#define DUNEFORK_DECODE_MARKED_STACK 0
+#define DUNEFORK_DECODE_MARKED_STACK_SMALL 0 /* on the same sheets as decode's: s at most 8, */
+#define DUNEFORK_DECODE_MARKED_STACK_SHORT 0 /* and fewer than 64 terms, */
+#define DUNEFORK_DECODE_MARKED_STACK_LEAST 0 /* and s at most 6 */
+#define DUNEFORK_SHOWN_LENGTH_STACK 0
 #define DUNEFORK_CARD_STACK 1820
 
 /* What a call returns where it refuses. The conditions are tried in this order; those of certificates (RANGE to TERM) for one
@@ -95,10 +118,13 @@ extern "C" {
 #define DUNEFORK_PERIOD (-9)          /* two of f(x), f(a x), .. f(a^(n-1) x), for the mask f of a certificate and the code's root a, have a
                                          common factor; where the period of f is coprime to n none have */
 #define DUNEFORK_TERM (-10)           /* a certificate has a term j below L that is 1 while b + j z modulo n is outside the defining set */
-#define DUNEFORK_BUFFER_LENGTH (-11)  /* the input or `out` has not its exact length */
-#define DUNEFORK_SPARE_BIT (-12)      /* a spare bit of the input is 1: a low one in a word's last byte, a high one in a message's */
+#define DUNEFORK_BUFFER_LENGTH (-11)  /* an input, `out`, `zeros` or `ones` has not its exact length */
+#define DUNEFORK_SPARE_BIT (-12)      /* a spare bit of an input is 1: a low one in the last byte of a word or of marks, a high one in
+                                         a message's */
 #define DUNEFORK_NONE_NEAR (-13)      /* decoding: no codeword within t places of the word */
 #define DUNEFORK_NO_CODEWORD (-14)    /* reading out: the word is no codeword */
+#define DUNEFORK_NONE_WITH_MARKS (-15) /* decoding a marked word: no codeword differs from it in e unmarked places with 2 e + r at most
+                                         d - 1, where r places are marked */
 
 /* Encodes a message of exactly DUNEFORK_BYTES(k) bytes into the codeword in out, exactly DUNEFORK_BYTES(n) bytes:
  * message place i stands in place n - k + i, the places below hold the checks. Returns 0, or a refusal: -1 to -12. */
@@ -119,6 +145,30 @@ int32_t dunefork_read(const uint8_t *sheet, size_t sheet_len, const uint8_t *wor
  * So up to t wrong places are always corrected. If there are more, the answer is DUNEFORK_NONE_NEAR, or another codeword that is
  * within t places: the received word does not tell them apart. Where that matters, let the message carry a check of its own. */
 int32_t dunefork_decode(const uint8_t *sheet, size_t sheet_len, const uint8_t *word, size_t word_len, uint8_t *out, size_t out_len);
+
+/* Corrects a received word some of whose places are marked, with a 1 in `marks`, as known only as "0 or 1". With r marked places, and d
+ * the sheet's distance, told by dunefork_card for the certificate at work, the answer is the codeword that differs from the word
+ * in e unmarked places with 2 e + r at most d - 1. There is never more than one. What the word has in marked places changes nothing;
+ * with no mark the answer is that of dunefork_decode. The word, the marks, zeros and ones have exactly DUNEFORK_BYTES(n) bytes each;
+ * marks are laid out as a word is, spare bits 0.
+ *     Returned is 2 e + trial, so e is half of it, rounded down, and trial what is left: 0 where zeros holds the answer, else 1, where
+ * ones holds it. dunefork_shown picks the buffer. Then zeros holds what dunefork_decode makes of the word with 0 in all marked places, or
+ * that word itself where it is refused with DUNEFORK_NONE_NEAR; ones likewise with 1 in all marked places.
+ *     On an accepted sheet, with everything of the right length and without spare bits, it is refused, with DUNEFORK_NONE_WITH_MARKS,
+ * exactly where there is no such codeword. Returns 0 to d - 1, or a refusal: -1 to -12 or -15, and then zeros and ones are both as they
+ * were. */
+int32_t dunefork_decode_marked(const uint8_t *sheet, size_t sheet_len, const uint8_t *word, size_t word_len, const uint8_t *marks,
+                               size_t marks_len, uint8_t *zeros, size_t zeros_len, uint8_t *ones, size_t ones_len);
+
+/* The buffer that holds the answer of a trial: zeros for 0, ones for any other number. */
+static inline const uint8_t *dunefork_shown(size_t trial, const uint8_t *zeros, const uint8_t *ones) {
+    return trial == 0 ? zeros : ones;
+}
+
+/* How many bytes of that buffer are the answer: n/8, rounded up, or all of a shorter one. There is no sheet, no refusal, and nothing is
+ * written; trial and n may be any numbers, however large, and the buffers of any length. After an answer of
+ * dunefork_decode_marked, with the sheet's n, it is DUNEFORK_BYTES(n). */
+size_t dunefork_shown_length(size_t trial, size_t n, const uint8_t *zeros, size_t zeros_len, const uint8_t *ones, size_t ones_len);
 
 /* Tells what a sheet amounts to: its listing, the program linkcard's text, into out, exactly DUNEFORK_CARD_BYTES bytes. The lines
  * are "code N K S", S being the field's degree, "zeros ..", "generator ..", for each certificate C "cert C terms L distance D", and

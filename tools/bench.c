@@ -1,10 +1,12 @@
 /* How long calls of the library take, and how long peers take on the same words. tools/bench builds and runs it: `bench ROUNDS`.
  *
  * Each line of standard input is a code: `HEX K T WORDS WEIGHT ..`, that is the sheet's bytes, k, t, how many words to draw for
- * each weight, and the weights: numbers of errors, or -1 for words drawn with no codeword in mind. The peers have the words of
- * the first line. Written are `LINE WHO WHAT WEIGHT NANOSECONDS`, the processor's time for one call: the mean over the words of
- * a weight, the least of the rounds; and counts of words, `LINE ours refused WEIGHT COUNT` and `LINE WHO wrong WEIGHT COUNT`, a
- * peer's wrong answers. In each round every code, weight and decoder has its turn, so that a slow moment of the machine hits all.
+ * each weight, and the weights: numbers of errors, or -1 for words drawn with no codeword in mind. After them may stand
+ * `marked ERRORS MARKS ..`: pairs of numbers of errors and of marked places beside these, for words to decode with marks. The peers
+ * have the words of the first line. Written are `LINE WHO WHAT WEIGHT NANOSECONDS`, the processor's time for one call: the mean over the
+ * words of a weight, the least of the rounds, WHAT being `marked-MARKS` where there are marks to look at; and counts of words,
+ * `LINE ours refused WEIGHT COUNT` and `LINE WHO wrong WEIGHT COUNT`, a peer's wrong answers. In each round every code, weight and
+ * decoder has its turn, so that a slow moment of the machine hits all.
  *
  * Every answer is held to the codeword that was sent, after the time was taken. A wrong one ends the run, but for a peer's with
  * more than t errors: those are counted. */
@@ -17,12 +19,26 @@
 
 #define CODES 64
 #define WEIGHTS 16
+#define KINDS 8
 #define LEAST_SECONDS 0.0003 /* a batch that takes less is repeated */
 
 /* What was sent, what arrived and what came out. */
 struct word {
     uint8_t message[DUNEFORK_WORD_MAX], codeword[DUNEFORK_WORD_MAX], received[DUNEFORK_WORD_MAX], out[DUNEFORK_WORD_MAX];
     int32_t reply;
+};
+
+/* The same with marks. Its buffer for the zeros is word.out. */
+struct marked_word {
+    struct word word;
+    uint8_t marks[DUNEFORK_WORD_MAX], ones[DUNEFORK_WORD_MAX];
+};
+
+/* Words with so many errors in unmarked places, and so many marked places. */
+struct kind {
+    int errors, marks;
+    struct marked_word *words;
+    double decode;
 };
 
 static const struct peer *const peers[] = {
@@ -42,7 +58,8 @@ struct code {
     int n, k, t, weights, weight[WEIGHTS];
     struct word *words[WEIGHTS];
     double judge, encode, read, decode[WEIGHTS], peer_encode[PEERS], peer_decode[PEERS][WEIGHTS];
-    int refused[WEIGHTS], wrong[PEERS][WEIGHTS];
+    int refused[WEIGHTS], wrong[PEERS][WEIGHTS], kinds;
+    struct kind kind[KINDS];
 };
 
 static struct code codes[CODES];
@@ -50,6 +67,7 @@ static struct code codes[CODES];
 /* Whose turn it is. */
 static struct code *c;
 static struct word *w;
+static struct marked_word *marked;
 
 static void fail(const char *who, const char *what, int weight) {
     fprintf(stderr, "bench: %s: %s (length %d, %d errors)\n", who, what, c ? c->n : 0, weight);
@@ -80,6 +98,19 @@ static void draw_message(uint8_t *message) {
             message[i / 8] |= (uint8_t)(1 << i % 8);
 }
 
+/* Flips so many places of a word where it is as another, and where a third has a 0. */
+static void flip_places(uint8_t *word, const uint8_t *as, const uint8_t *without, int places) {
+    while (places > 0) {
+        size_t place = drawn() % (uint64_t)c->n;
+        if (bench_place(word, place) == bench_place(as, place) && !bench_place(without, place)) {
+            bench_flip(word, place);
+            places--;
+        }
+    }
+}
+
+static const uint8_t nowhere[DUNEFORK_WORD_MAX];
+
 /* The word is all zeros before. */
 static void draw(struct word *x, int weight) {
     draw_message(x->message);
@@ -90,12 +121,27 @@ static void draw(struct word *x, int weight) {
         return;
     }
     memcpy(x->received, x->codeword, sizeof x->received);
-    for (int missing = weight; missing > 0;) {
-        size_t place = drawn() % (uint64_t)c->n;
-        if (bench_place(x->received, place) == bench_place(x->codeword, place)) {
-            bench_flip(x->received, place);
-            missing--;
-        }
+    flip_places(x->received, x->codeword, nowhere, weight);
+}
+
+/* In marked places stands anything. */
+static void draw_marked(struct marked_word *x, const struct kind *kind) {
+    uint8_t anything[DUNEFORK_WORD_MAX] = {0};
+    draw(&x->word, 0);
+    flip_places(x->marks, nowhere, nowhere, kind->marks);
+    flip_places(x->word.received, x->word.codeword, x->marks, kind->errors);
+    draw_word(anything);
+    for (size_t i = 0; i < c->word_len; i++)
+        x->word.received[i] = (uint8_t)((x->word.received[i] & ~x->marks[i]) | (anything[i] & x->marks[i]));
+}
+
+static void draw_kinds(void) {
+    for (struct kind *kind = c->kind; kind < c->kind + c->kinds; kind++) {
+        kind->words = calloc(c->count, sizeof *kind->words);
+        if (!kind->words)
+            fail("input", "no memory", 0);
+        for (size_t i = 0; i < c->count; i++)
+            draw_marked(&kind->words[i], kind);
     }
 }
 
@@ -184,6 +230,30 @@ static void time_our_rest(void) {
             fail("ours", "a message is read wrongly", 0);
 }
 
+/* Archives from before 2026-05 have no such entry. */
+#ifdef WITH_MARKED
+static void our_decode_marked(size_t i) {
+    struct marked_word *x = &marked[i];
+    x->word.reply = dunefork_decode_marked(c->sheet, c->sheet_len, x->word.received, c->word_len, x->marks, c->word_len, x->word.out,
+                                           c->word_len, x->ones, c->word_len);
+}
+
+static void time_our_marked(struct kind *kind) {
+    marked = kind->words;
+    keep_least(&kind->decode, our_decode_marked);
+    for (size_t i = 0; i < c->count; i++) {
+        struct marked_word *x = &marked[i];
+        if (x->word.reply / 2 != kind->errors ||
+            memcmp(dunefork_shown((size_t)x->word.reply % 2, x->word.out, x->ones), x->word.codeword, c->word_len) != 0)
+            fail("ours", "a word with marks is decoded wrongly", kind->errors);
+    }
+}
+#else
+static void time_our_marked(struct kind *kind) {
+    marked = kind->words;
+}
+#endif
+
 /* ---- peers */
 
 /* A peer's answer is held to ours, which was found right just before. */
@@ -221,6 +291,8 @@ static void one_round(int with_peers) {
         for (size_t p = 0; with_peers && peers[p]; p++)
             time_peer_decode(p, j);
     }
+    for (int j = 0; j < c->kinds; j++)
+        time_our_marked(&c->kind[j]);
     w = c->words[0];
     time_our_rest();
     for (size_t p = 0; with_peers && peers[p]; p++)
@@ -239,6 +311,9 @@ static void tell(int line) {
         told(line, "ours", "decode", c->weight[j], c->decode[j]);
         printf("%d ours refused %d %d\n", line, c->weight[j], c->refused[j]);
     }
+    for (const struct kind *kind = c->kind; kind < c->kind + c->kinds; kind++)
+        if (kind->decode > 0)
+            printf("%d ours marked-%d %d %.1f\n", line, kind->marks, kind->errors, kind->decode * 1e9);
     for (size_t p = 0; line == 0 && peers[p]; p++) {
         told(line, peers[p]->name, "encode", 0, c->peer_encode[p]);
         for (int j = 0; j < c->weights; j++) {
@@ -272,6 +347,11 @@ static int take_line(void) {
             draw(&x[i], c->weight[c->weights]);
         c->words[c->weights++] = x;
     }
+    taken = 0;
+    sscanf(at, " marked%n", &taken);
+    for (at += taken; taken && c->kinds < KINDS; at += taken, c->kinds++)
+        if (sscanf(at, "%d %d%n", &c->kind[c->kinds].errors, &c->kind[c->kinds].marks, &taken) != 2)
+            break;
     return 1;
 }
 
@@ -282,6 +362,9 @@ int main(int argc, char **argv) {
             fail(peers[p]->name, "its code is another", 0);
     for (c = codes; lines < CODES && take_line(); c++)
         lines++;
+    /* after all others, which marks do not change */
+    for (c = codes; c < codes + lines; c++)
+        draw_kinds();
     for (int round = 0; round < rounds; round++)
         for (int line = 0; line < lines; line++) {
             c = &codes[line];

@@ -1,5 +1,5 @@
-# Calls at and on either side of every boundary that document 01 has, and with two refusals true at once, and what they are to answer
-# by tools/second_reading.py. tools/answers.py puts them together with the other calls.
+# Calls at and on either side of every boundary that document 01 and request 2026-05 of document 02 have, and with two refusals true at
+# once, and what they are to answer by tools/second_reading.py. tools/answers.py puts them together with the other calls.
 #
 # A definition that is wrong at a boundary, with code that fits it, passes every proof; these calls stand against it. A sheet is as
 # right as it can be but for what it is here for, so that only the condition in question tells. Two things no sheet can be: one of 74
@@ -261,6 +261,8 @@ def sheet_calls():
                 given, space = ((b'', b), (b'\xff' * b, b), (bytes(b), 0), (bytes(b + 1), b), (b'\xff' * b, b + 1))[i % 5]
                 for kind in (1, 2, 3) if group == pairs else (1 + i % 3,):
                     yield made, kind, given, space
+                if group == pairs:
+                    yield made, 6, marked_given(given, given[1:], b, space), 0
     for made in lengths_of_words():
         yield made, 0, b'', 0
 
@@ -305,6 +307,68 @@ def word_calls(made):
         yield kind, right + b'\0', space + 1
 
 
+# ---- words with marks: the kind is 6, or 7 for shown
+MARKED_SHEETS = (
+    H, E, S, B, sheet(3, [1], run(1, 2)), sheet(7, [1, 3], run(1, 6)), sheet(9, [0], run(0, 1)),
+    sheet(9, [], certificate(0, 1, 11, 2, 1)), sheet(15, [1, 3, 5], run(1, 6)), sheet(15, [0, 1, 3], run(0, 5)),
+    sheet(15, [0, 1, 3], run(1, 4), run(0, 5)), sheet(15, [0, 1, 3], run(0, 5), run(1, 4)),
+    sheet(15, [0, 1, 3], run(0, 3), run(0, 5), certificate(0, 1, 5, 1, 9)),
+    sheet(15, [1, 3], run(1, 1), run(1, 3)), sheet(23, [1], run(1, 4)), sheet(127, [1], GOOD))
+
+
+def marked_given(word, marks, zeros, ones):
+    return bytes([len(word), len(marks), zeros, ones]) + word + marks
+
+
+def marked_call(n, word, marks):
+    b = reading.in_bytes(n)
+    return 6, marked_given(reading.word_bytes(word, n), reading.word_bytes(marks, n), b, b), 0
+
+
+def marked_calls(made):
+    # r from 0 to d + 1 and n, with e = 0, at the bound and beyond: the places marked are the codeword's ones first, its zeros first, or
+    # in turn; as received all of them are wrong, or none, or those below the middle
+    n, k, d = made[2], reading.k_of(bytes(made)), reading.record(bytes(made))[4]
+    for i, message in enumerate((2 ** k - 1, 0x5a3c96f1 * 0x100000001000000010000001 % 2 ** k)):
+        word = reading.codeword(bytes(made), message)
+        for r in sorted({*range(d + 2), n - 1, n} & set(range(n + 1))):
+            most = (d - 1 - r) // 2
+            for e in sorted({0, most, most + 1} & set(range(n - r + 1))):
+                for order in (lambda p: (~word >> p & 1, p), lambda p: (word >> p & 1, -p), lambda p: (5 * p + 3 * r) % n):
+                    places = sorted(range(n), key=order)
+                    marks = sum(1 << p for p in places[:r])
+                    wrong = sum(1 << p for p in (places[r:r + e] if i else places[n - e:]))
+                    yield marked_call(n, word ^ wrong ^ marks & (0, 2 ** n - 1, 2 ** (n // 2) - 1)[(i + r + e) % 3], marks)
+
+
+def marked_refusals(made):
+    n, t, b = made[2], reading.record(bytes(made))[5], reading.in_bytes(made[2])
+    near, far, marks = 0, 2 ** (t + 1) - 1, 2 ** (n - 1)
+    # 11: each of the four, and each two
+    for word in (near, far, near | 1 << n, far | 1 << 8 * b - 1):
+        for wrong in ((0,), (1,), (2,), (3,), (0, 1), (1, 2), (2, 3), (0, 3)):
+            for size in sorted({0, b - 1, b + 1} - {b}):
+                lengths = [size if place in wrong else b for place in range(4)]
+                given = [(reading.word_bytes(x, n) + bytes(1))[:length] for x, length in zip((word, marks), lengths)]
+                yield 6, marked_given(*given, *lengths[2:]), 0
+    # 12, at each spare place of the word and of the marks, and 11 of a trial buffer before it
+    for place in range(n, 8 * b):
+        for word in (near, far):
+            for spare in ((1 << place, 0), (0, 1 << place), (1 << place, 1 << place)):
+                kind, given, _ = marked_call(n, word | spare[0], marks | spare[1])
+                yield kind, given, 0
+                yield kind, given[:2] + bytes([b, b - 1]) + given[4:], 0
+                yield kind, given[:2] + bytes([b + 1, b]) + given[4:], 0
+
+
+def shown_calls():
+    for trial in (0, 1, 2, 256, 2 ** 32, 2 ** 63, 2 ** 64 - 1):
+        for n in (0, 1, 7, 8, 9, 127, 128, 129, 256, 2 ** 32, 2 ** 64 - 8, 2 ** 64 - 7, 2 ** 64 - 2, 2 ** 64 - 1):
+            for zeros, ones in ((0, 3), (3, 0), (1, 2), (2, 1), (16, 17), (20, 15)):
+                if trial < 2 or n in (0, 9, 128, 2 ** 64 - 1):
+                    yield [], 7, trial.to_bytes(8, 'little') + n.to_bytes(8, 'little') + bytes([zeros, ones]), 0
+
+
 def card_calls():
     one_each = {reading.judged(bytes(made)): made for made in [*pairs(), *several(), *lengths(), *headers()]}
     assert sorted(one_each) == list(range(11))
@@ -322,6 +386,10 @@ def questions():
     for made in WORD_SHEETS:
         for call in word_calls(made):
             yield made, *call
+    for made in MARKED_SHEETS:
+        for call in [*marked_calls(made), *(marked_refusals(made) if made in (H, E, S, B) else ())]:
+            yield made, *call
+    yield from shown_calls()
     yield from card_calls()
 
 

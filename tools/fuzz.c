@@ -1,9 +1,9 @@
-/* Random calls of dunefork_encode, dunefork_read, dunefork_decode and dunefork_card, each held to the reference of fuzz_reference.h and
- * fuzz_listing.h: the reply, every byte of the buffer, and that no byte beside the lent ones has changed. tools/fuzz builds and runs it.
+/* Random calls of all entries of the library, each held to the reference of fuzz_reference.h, fuzz_listing.h and fuzz_marked.h: the
+ * reply, every byte of the buffers, and that no byte beside the lent ones has changed. tools/fuzz builds and runs it.
  *
  *     fuzz seed calls [fault]
  *
- * A seed gives the same calls everywhere, and the checksum printed is that of all replies and buffers. With a fault, 1 to 13, a
+ * A seed gives the same calls everywhere, and the checksum printed is that of all replies and buffers. With a fault, 1 to 28, a
  * wrong library is played, and the run must end in a difference: that shows that the harness sees such a thing.
  *
  * Every buffer has its exact length. Three in four lie at the end or the start of a page between two pages that cannot be touched,
@@ -19,8 +19,9 @@
 #include <time.h>
 #include <unistd.h>
 
-enum { PAGE = 4096, SHEET = 0, INPUT = 1, OUTPUT = 2, ENCODE = 0, READ = 1, DECODE = 2, CARD = 3 };
-static const char *const entry_name[] = {"encode", "read", "decode", "card"};
+enum { PAGE = 4096, SHEET = 0, INPUT = 1, OUTPUT = 2, ZEROS = OUTPUT, ONES = 3, MARKS = 4, BUFFERS = 5 };
+enum { ENCODE, READ, DECODE, CARD, MARKED, SHOWN, ENTRIES };
+static const char *const entry_name[ENTRIES] = {"encode", "read", "decode", "card", "decode_marked", "shown_length"};
 
 /* ---- the draw. No expression draws twice in an order that C leaves open: a seed gives the same calls with every compiler. */
 static uint64_t state;
@@ -56,10 +57,10 @@ static struct lent {
     uint8_t copy[PAGE]; /* what the page must hold after the call */
     size_t offset, length;
     int heap;
-} lent[3];
+} lent[BUFFERS];
 
 static void open_pages(void) {
-    for (int i = 0; i < 3; i++) {
+    for (int i = 0; i < BUFFERS; i++) {
         uint8_t *base = mmap(NULL, 3 * PAGE, PROT_NONE, MAP_PRIVATE | MAP_ANONYMOUS, -1, 0);
         if (base == MAP_FAILED || mprotect(base + PAGE, PAGE, PROT_READ | PROT_WRITE)) {
             perror("pages");
@@ -115,13 +116,13 @@ static double stored_max, tried_max;
 
 static struct {
     int entry;
-    const uint8_t *input;
-    size_t input_length, output_length;
+    const uint8_t *input, *marks;
+    size_t input_length, output_length, marks_length, second_length;
 } now;
 
 static int fault;
 static uint64_t checksum = 14695981039346656037u, calls, refused_sheets, accepted_sheets;
-static uint64_t count_refused[4][15], count_done[4], count_changed[PLACES + 1], count_decided[3];
+static uint64_t count_refused[ENTRIES][16], count_done[ENTRIES], count_changed[PLACES + 1], count_decided[3];
 enum { BY_SEARCH, BY_BOTH, BY_MAKING, BY_PROPERTY_CHANGED, BY_PROPERTY_13, HOW };
 static const char *const how_name[HOW] = {
     "held to a search", "held to two searches", "known from how the word was made",
@@ -140,7 +141,10 @@ static void differ(const char *what) {
     fprintf(stderr, "DIFFERENCE at call %llu of %s: %s\n", (unsigned long long)calls, entry_name[now.entry], what);
     show(stderr, "sheet", sheet, sheet_length);
     show(stderr, "input", now.input, now.input_length);
-    fprintf(stderr, "output of %zu bytes\n", now.output_length);
+    if (now.entry == MARKED) show(stderr, "marks", now.marks, now.marks_length);
+    fprintf(stderr, "output of %zu bytes", now.output_length);
+    if (now.entry == MARKED) fprintf(stderr, ", and of %zu for the ones", now.second_length);
+    fprintf(stderr, "\n");
     exit(1);
 }
 
@@ -215,8 +219,10 @@ static int32_t meddled(int32_t reply) {
     return reply;
 }
 
+static int32_t meddled_marked(int32_t reply);
+
 static int32_t called(void) {
-    const struct lent *s = &lent[SHEET], *i = &lent[INPUT], *o = &lent[OUTPUT];
+    const struct lent *s = &lent[SHEET], *i = &lent[INPUT], *o = &lent[OUTPUT], *m = &lent[MARKS], *second = &lent[ONES];
     int32_t reply;
     double start = seconds();
     if (now.entry == ENCODE)
@@ -225,9 +231,12 @@ static int32_t called(void) {
         reply = dunefork_read(s->at, s->length, i->at, i->length, o->at, o->length);
     else if (now.entry == DECODE)
         reply = dunefork_decode(s->at, s->length, i->at, i->length, o->at, o->length);
-    else
+    else if (now.entry == CARD)
         reply = dunefork_card(s->at, s->length, o->at, o->length);
+    else
+        reply = dunefork_decode_marked(s->at, s->length, i->at, i->length, m->at, m->length, o->at, o->length, second->at, second->length);
     library_seconds += seconds() - start;
+    if (fault && now.entry == MARKED) reply = meddled_marked(reply);
     return fault ? meddled(reply) : reply;
 }
 
@@ -560,6 +569,8 @@ static size_t wrong_length(size_t right) {
     }
 }
 
+#include "fuzz_marked.h"
+
 /* The places in bytes, and sometimes a spare bit, another length of input or output, or several of these at once. */
 static void try_places(int entry, word_t word, word_t made, int weight) {
     static uint8_t input[PAGE];
@@ -598,8 +609,9 @@ static int drawn_weight(void) {
 static void try_accepted(int count) {
     int n = code.n, k = code.k;
     for (int weight = 0; weight <= code.t + 2 && weight <= n && count > 30; weight++) try_decoding(weight);
+    if (count > 30) try_bounds();
     for (; count > 0; count--) {
-        int kind = below(8);
+        int kind = below(10);
         word_t all = (((word_t)1 << (k - 1)) - 1) * 2 + 1, message = below(8) ? draw_places(k) : 0;
         if (message == 0 && below(3)) message = below(2) ? all : (word_t)1 << below(k);
         word_t drawn = draw_places(n);
@@ -609,6 +621,8 @@ static void try_accepted(int count) {
             word_t word = encoded(&code, message);
             int change = below(5);
             try_places(READ, change < 2 ? word : change < 4 ? word ^ draw_pattern(n, 1 + below(change == 2 ? 2 : n)) : drawn, 0, -1);
+        } else if (kind > 7) {
+            try_drawn_marks();
         } else if (below(8)) {
             try_decoding(drawn_weight());
         } else {
@@ -619,12 +633,19 @@ static void try_accepted(int count) {
 
 /* Inputs and buffers as for the length in byte 2, and others. */
 static void try_refused(int count) {
-    static uint8_t input[PAGE];
+    static uint8_t input[PAGE], marks[PAGE];
     size_t places = sheet_length > 2 ? DUNEFORK_BYTES(sheet[2]) : 2;
     for (; count > 0; count--) {
         size_t length = below(2) ? places : wrong_length(places), output_length = below(2) ? places : wrong_length(places);
         for (size_t i = 0; i < length; i++) input[i] = (uint8_t)(below(2) ? draw() : 0);
-        try(below(3), input, length, output_length, 0, -1);
+        int which = below(4);
+        if (which < 3) {
+            try(which, input, length, output_length, 0, -1);
+            continue;
+        }
+        size_t marks_length = below(2) ? places : wrong_length(places), second_length = below(2) ? places : wrong_length(places);
+        for (size_t i = 0; i < marks_length; i++) marks[i] = (uint8_t)(below(2) ? draw() : 0);
+        try_marked(input, length, marks, marks_length, output_length, second_length, 0, 0);
     }
 }
 
@@ -632,6 +653,7 @@ static void try_sheet(int good, int bad) {
     judge(sheet, sheet_length, &code);
     prepared = 0, distance_known = 0, costly = 2;
     try_card(below(16) ? DUNEFORK_CARD_BYTES : wrong_length(DUNEFORK_CARD_BYTES));
+    try_shown();
     if (code.refusal) {
         refused_sheets++;
         try_refused(bad);
@@ -643,6 +665,21 @@ static void try_sheet(int good, int bad) {
 }
 
 /* ---- the run */
+static void tell_counts(const char *of, const uint64_t counts[PLACES + 1]) {
+    printf("%s", of);
+    for (int i = 0; i <= PLACES; i++)
+        if (counts[i]) printf(" %d:%llu", i, (unsigned long long)counts[i]);
+    printf("\n");
+}
+
+static void report_marked(void) {
+    tell_counts("decoded with marks, by e:", count_marked_e);
+    tell_counts("with marks decoded or refused with 15, by r:", count_marked_r);
+    printf("decoded with marks: %llu by the zeros, %llu by the ones; %llu of them have the answer in both\n",
+           (unsigned long long)count_trial[0], (unsigned long long)count_trial[1], (unsigned long long)count_trial[2]);
+    for (int i = 0; i < MARKED_HOW; i++) printf("  %10llu %s\n", (unsigned long long)count_marked_how[i], marked_how_name[i]);
+}
+
 static void report(uint64_t seed, double whole) {
     printf("seed %llu, %llu calls, sheets %llu accepted and %llu refused\n", (unsigned long long)seed, (unsigned long long)calls,
            (unsigned long long)accepted_sheets, (unsigned long long)refused_sheets);
@@ -650,19 +687,21 @@ static void report(uint64_t seed, double whole) {
            (double)calls / library_seconds);
     printf("accepted sheets, by what chose the certificate: %llu the largest d, %llu the fewest terms, %llu the earliest\n",
            (unsigned long long)count_decided[0], (unsigned long long)count_decided[1], (unsigned long long)count_decided[2]);
-    printf("%-12s %10s %10s %10s %10s\n", "reply", "encode", "read", "decode", "card");
-    printf("%-12s %10llu %10llu %10llu %10llu\n", "done", (unsigned long long)count_done[0], (unsigned long long)count_done[1],
-           (unsigned long long)count_done[2], (unsigned long long)count_done[3]);
-    for (int r = 1; r <= 14; r++)
-        printf("refused %-4d %10llu %10llu %10llu %10llu\n", r, (unsigned long long)count_refused[0][r],
-               (unsigned long long)count_refused[1][r], (unsigned long long)count_refused[2][r], (unsigned long long)count_refused[3][r]);
-    printf("decoded, by changed places:");
-    for (int i = 0; i <= PLACES; i++)
-        if (count_changed[i]) printf(" %d:%llu", i, (unsigned long long)count_changed[i]);
-    printf("\nwords that were decoded or refused with 13:\n");
+    printf("%-12s", "reply");
+    for (int e = 0; e < ENTRIES; e++) printf(" %13s", entry_name[e]);
+    for (int r = 0; r <= 15; r++) {
+        if (r)
+            printf("\nrefused %-4d", r);
+        else
+            printf("\n%-12s", "done");
+        for (int e = 0; e < ENTRIES; e++) printf(" %13llu", (unsigned long long)(r ? count_refused[e][r] : count_done[e]));
+    }
+    tell_counts("\ndecoded, by changed places:", count_changed);
+    printf("words and trial words that were decoded or refused with 13:\n");
     for (int i = 0; i < HOW; i++) printf("  %10llu %s\n", (unsigned long long)count_how[i], how_name[i]);
+    report_marked();
     printf("checksum %016llx\n", (unsigned long long)checksum);
-    for (int e = 0; e <= CARD; e++)
+    for (int e = 0; e < SHOWN; e++)
         for (int r = e == CARD ? 11 : 1; r <= (e == CARD ? 11 : 12); r++)
             if (calls >= 100000 && !count_refused[e][r]) {
                 printf("refusal %d never came from %s\n", r, entry_name[e]);

@@ -1,5 +1,5 @@
-# Misreadings of document 01 and of requests 2026-01, 2026-03 and 2026-04 of document 02, for tools/misreadings: each is a name and what is replaced in
-# tools/second_reading.py, a line or a part of one, by what. What is replaced must stand there exactly once.
+# Misreadings of document 01 and of requests 2026-01 and 2026-03 to 2026-05 of document 02, for tools/misreadings: each is a name and what
+# is replaced in tools/second_reading.py, a line or a part of one, by what. What is replaced must stand there exactly once.
 MISREADINGS = []
 
 
@@ -292,6 +292,142 @@ misread('a refused call changes the last byte', REFUSED, "return 'refused', numb
 misread('13 with the received word written', REFUSED, "return 'refused', number, given if number == 13 else out")
 misread('a refusal returned as a count', REFUSED, "return 'returned', number, out")
 
+# ---- words with marks (2026-05): the bound, the codeword, and e
+WITHIN = 'return 2 * e + r <= d - 1'
+for name, bound in (('2 e + r at most d', '2 * e + r <= d'), ('2 e + r below d - 1', '2 * e + r < d - 1'),
+                    ('2 e + r at most 2 t', '2 * e + r <= (d - 1) // 2 * 2'), ('e + r at most d - 1', 'e + r <= d - 1'),
+                    ('e + r at most t', 'e + r <= (d - 1) // 2'), ('r not counted', '2 * e <= d - 1'),
+                    ('r/2 rounded down', 'e + r // 2 <= (d - 1) // 2'), ('any codeword, the nearest in e', 'True')):
+    misread('marked: ' + name, WITHIN, 'return ' + bound)
+DISTANCE_OF = 'return record(sheet)[4]\n\n\n@lru'
+for name, of in (('the first certificate', 'certificates_of(sheet)[0].d'), ('the last certificate', 'certificates_of(sheet)[-1].d'),
+                 ('the first of the largest t, as before 2026-04', 'max(certificates_of(sheet), key=lambda c: c.t).d')):
+    misread('marked: d of ' + name, DISTANCE_OF, DISTANCE_OF.replace('record(sheet)[4]', of))
+misread('marked: r without the wrong places', 'if not within(e, marked_of(sheet, marks), distance_of(sheet)):',
+        'if not within(e, max(marked_of(sheet, marks) - e, 0), distance_of(sheet)):')
+misread('marked: the bound over marked places too', 'if left == 0:',
+        'if left == 0 and within(pattern.bit_count(), marked_of(sheet, marks), distance_of(sheet)):')
+WRONG_PLACES = 'e = ((right ^ word) & ~marks).bit_count()'
+OF_TRIAL = '(right ^ (zeros_trial(word, marks) if zeros == right else ones_trial(word, marks))).bit_count()'
+for name, count in (('e over marked places too', '(right ^ word).bit_count()'), ('e of the trial word', OF_TRIAL),
+                    ('r added to e', '((right ^ word) | marks).bit_count()'),
+                    ('e over the marked places', '((right ^ word) & marks).bit_count()'),
+                    ('e over message places', '(((right ^ word) & ~marks) >> n - k_of(sheet)).bit_count()'),
+                    ('returns 0 for e', '0'), ('returns 2 e + r', '2 * ((right ^ word) & ~marks).bit_count() + marks.bit_count()')):
+    misread('marked: ' + name, WRONG_PLACES, 'e = ' + count)
+UNTESTED = """def only(sheet, word, marks):
+    decoded = [nearest(sheet, trial) for trial in (zeros_trial(word, marks), ones_trial(word, marks))]
+    found = [x for x in decoded if x is not None]
+    return %s
+
+
+def marks_in("""
+misread('marked: the first decoded trial word, without the bound', 'def marks_in(', UNTESTED % 'found[0] if found else None')
+misread('marked: of both decoded trial words the one with fewer wrong places, without the bound', 'def marks_in(',
+        UNTESTED % 'min(found, key=lambda x: ((x ^ word) & ~marks).bit_count()) if found else None')
+misread('marked: the bound on the first decoded trial word alone', 'def marks_in(', UNTESTED % """(found[0] if found and within(
+        ((found[0] ^ word) & ~marks).bit_count(), marked_of(sheet, marks), distance_of(sheet)) else None)""")
+ZEROS, ONES = 'zeros_trial(word, marks)', 'ones_trial(word, marks)'
+misread('marked: unmarked places decoded at 0', 'return word & ~marks', 'return word & marks')
+misread('marked: trial words as received and turned over', 'return word & ~marks', 'return word', 'return word | marks',
+        'return word ^ marks')
+NONE = 'return 15 if only(sheet, mask_in(word, word_weight), marks_in(marks)) is None else 0'
+for name, asked in (('only the zeros tried', 'found != left[0]'), ('only the ones tried', 'found != left[1]'),
+                    ('both trials must hold it', 'found != left[0] or found != left[1]'),
+                    ('15 where a trial gives 13', 'None in (nearest(sheet, zeros), nearest(sheet, ones))')):
+    misread('marked: ' + name, NONE, """word, marks = mask_in(word, word_weight), marks_in(marks)
+    zeros, ones, found = %s, %s, only(sheet, word, marks)
+    left = held(sheet, zeros), held(sheet, ones)
+    return 15 if found is None or %s else 0""" % (ZEROS, ONES, asked))
+
+# ---- the trial and the buffers
+TRIAL = 'trial = 0 if zeros == right else 1'
+for name, number in (
+        ('the ones handed back where both hold the answer', '1 if ones == right else 0'),
+        ('trial 1 the zeros', '1 if zeros == right else 0'), ('trial always 0', '0'),
+        ('trial 0 where the zeros are decoded', '0 if nearest(sheet, %s) is not None else 1' % ZEROS),
+        ('the trial with fewer changes', '0 if (%s ^ right).bit_count() <= (%s ^ right).bit_count() else 1' % (ZEROS, ONES)),
+        ('the trial as received in most marked places', '0 if 2 * (word & marks).bit_count() <= marks.bit_count() else 1')):
+    misread('marked: ' + name, TRIAL, 'trial = ' + number)
+LEFT = "return 'returned %d %d' % (e, trial), word_bytes(zeros, n), word_bytes(ones, n)"
+NOT_DECODED = 'if nearest(sheet, %s) is None else'
+for name, zeros, ones in (
+        ('an undecoded trial leaves its buffer as it was', 'given[2] %s word_bytes(zeros, n)' % NOT_DECODED % ZEROS,
+         'given[3] %s word_bytes(ones, n)' % NOT_DECODED % ONES),
+        ('the received word in the buffer of an undecoded trial', 'word_bytes(word %s zeros, n)' % NOT_DECODED % ZEROS,
+         'word_bytes(word %s ones, n)' % NOT_DECODED % ONES),
+        ('0 in the buffer of an undecoded trial', 'word_bytes(0 %s zeros, n)' % NOT_DECODED % ZEROS,
+         'word_bytes(0 %s ones, n)' % NOT_DECODED % ONES),
+        ('the buffers hold the undecoded trial words', 'word_bytes(%s, n)' % ZEROS, 'word_bytes(%s, n)' % ONES),
+        ('only the buffer of the answer written', '(given[2] if trial else word_bytes(zeros, n))',
+         'word_bytes(ones, n) if trial else given[3]'),
+        ('the ones not tried where the zeros hold the answer', 'word_bytes(zeros, n)', 'word_bytes(ones, n) if trial else given[3]'),
+        ('the ones not tried where nothing is marked', 'word_bytes(zeros, n)', 'word_bytes(ones, n) if marks else given[3]'),
+        ('the other trial undecoded', 'word_bytes(%s if trial else zeros, n)' % ZEROS, 'word_bytes(ones if trial else %s, n)' % ONES),
+        ('the answer in both buffers', 'word_bytes(right, n)', 'word_bytes(right, n)'),
+        ('the buffers swapped', 'word_bytes(ones, n)', 'word_bytes(zeros, n)'),
+        ('the buffers least significant bit first', 'message_bytes(zeros, n)', 'message_bytes(ones, n)')):
+    misread('marked: ' + name, LEFT, "return 'returned %%d %%d' %% (e, trial), %s, %s" % (zeros, ones))
+REFUSED_MARKED = "return 'refused %d' % number, *given[2:]"
+CHANGED = "return 'refused %%d' %% number, %s"
+misread('marked: a refused call changes the zeros', REFUSED_MARKED, CHANGED % 'bytes(len(given[2])), given[3]')
+misread('marked: a refused call changes the ones', REFUSED_MARKED, CHANGED % 'given[2], bytes(len(given[3]))')
+HELD = 'word_bytes(held(sheet, %s_trial(*[mask_in(x, word_weight) for x in given[:2]])), byte(sheet, 2)) if number == 15 else %s'
+misread('marked: 15 leaves the decoded zeros', REFUSED_MARKED, CHANGED % (HELD % ('zeros', 'given[2]') + ', given[3]'))
+misread('marked: 15 leaves the decoded ones', REFUSED_MARKED, CHANGED % ('given[2], ' + HELD % ('ones', 'given[3]')))
+
+# ---- marks in bytes, and the refusals
+MARKS_IN = 'return mask_in(given, word_weight)'
+misread('marked: the marks least significant bit first', MARKS_IN, 'return mask_in(given, message_weight)')
+misread('marked: 0 meaning marked', MARKS_IN, 'return sum(1 << i for i in range(8 * len(given)) if not given[i // 8] & word_weight(i))')
+misread('marked: the received word least significant bit first', 'only(sheet, mask_in(word, word_weight)',
+        'only(sheet, mask_in(word, message_weight)', '12 if mask_in(word, word_weight) >>', '12 if mask_in(word, message_weight) >>',
+        'mask_in(given[0], word_weight)', 'mask_in(given[0], message_weight)')
+for what in ('word', 'marks', 'zeros', 'ones'):
+    line = '11 if len(%s) != in_bytes(byte(sheet, 2)) else 0' % what
+    misread('marked: 11: %s may be longer' % what, line, line.replace('!=', '<'))
+    misread('marked: 11: %s may be shorter' % what, line, line.replace('!=', '>'))
+    misread('marked: 11: %s ignored' % what, line, '0')
+for what, spare in (('word', '12 if mask_in(word, word_weight) >> byte(sheet, 2) else 0'),
+                    ('marks', '12 if marks_in(marks) >> byte(sheet, 2) else 0')):
+    misread('marked: 12: spare bits of the %s ignored' % what, spare, '0')
+    misread('marked: 12: the first spare place of the %s only' % what, spare, spare.replace('byte(sheet, 2)', 'byte(sheet, 2) & 1'))
+    misread('marked: 12: the last spare place of the %s only' % what, spare, spare.replace('byte(sheet, 2)', '8 * len(%s) - 1' % what))
+    misread('marked: 12: spare bits of the %s at the high end' % what, spare,
+            '12 if mask_in(%s, message_weight) >> byte(sheet, 2) else 0' % what)
+misread('marked: 11: the marks have k/8 bytes', '11 if len(marks) != in_bytes(byte(sheet, 2)) else 0',
+        '11 if len(marks) != in_bytes(k_of(sheet)) else 0')
+misread('marked: 13 for 15', NONE, NONE.replace('15', '13'))
+misread('marked: 13 where nothing is marked', NONE, NONE.replace('15', '(15 if any(marks) else 13)'))
+MARKED_ORDER = 'marked_sheet, word_length, marks_length, zeros_length, ones_length, word_spare, marks_spare, none_within'
+for name, order in (
+        ('12 before 11', (0, 5, 6, 1, 2, 3, 4, 7)), ('12 of the word before 11 of the marks', (0, 1, 5, 2, 3, 4, 6, 7)),
+        ('12 before 11 of the trial buffers', (0, 1, 2, 5, 6, 3, 4, 7)), ('12 before 11 of the ones', (0, 1, 2, 3, 5, 6, 4, 7)),
+        ('15 before 12', (0, 1, 2, 3, 4, 7, 5, 6)), ('15 before 12 of the marks', (0, 1, 2, 3, 4, 5, 7, 6)),
+        ('15 before 11 of the trial buffers', (0, 1, 2, 5, 6, 7, 3, 4)), ('15 before 11 of the ones', (0, 1, 2, 3, 5, 6, 7, 4)),
+        ('11 before the sheet', (1, 2, 3, 4, 0, 5, 6, 7)), ('11 of the word before the sheet', (1, 0, 2, 3, 4, 5, 6, 7)),
+        ('11 of the trial buffers before the sheet', (3, 4, 0, 1, 2, 5, 6, 7)), ('11 and 12 before the sheet', (1, 2, 3, 4, 5, 6, 0, 7))):
+    misread('marked: ' + name, MARKED_ORDER, ', '.join(MARKED_ORDER.split(', ')[i] for i in order))
+
+# ---- shown
+CHOSEN = 'buffer = zeros if trial == 0 else ones'
+for name, choice in (
+        ('any other trial counts as 0', 'trial != 1'), ('even trials count as 0', 'trial % 2 == 0'),
+        ('the trial modulo 2^8', 'trial % 2 ** 8 == 0'), ('the trial modulo 2^32', 'trial % 2 ** 32 == 0'),
+        ('trials below 0 count as 0', 'trial == 0 or trial >= 2 ** 63'), ('1 the zeros', 'trial == 1'), ('always the zeros', 'True')):
+    misread('shown: ' + name, CHOSEN, CHOSEN.replace('trial == 0', choice))
+SHOWN = 'return buffer[:in_bytes(n)]'
+for name, part in (
+        ('all of a longer buffer', 'buffer'), ('n/8 rounded down', 'buffer[:n // 8]'),
+        ('one byte more where n is a multiple of 8', 'buffer[:n // 8 + 1]'), ('n bytes', 'buffer[:n]'),
+        ('nothing of a shorter buffer', "buffer[:in_bytes(n)] if len(buffer) >= in_bytes(n) else b''"),
+        ('a shorter buffer filled up with 0', "buffer[:in_bytes(n)].ljust(min(in_bytes(n), 20), b'\\0')"),
+        ('no more than the other buffer has', 'buffer[:min(in_bytes(n), len(zeros), len(ones))]'),
+        ('n + 7 wraps', 'buffer[:(n + 7) % 2 ** 64 // 8]'), ('n modulo 2^8', 'buffer[:in_bytes(n % 2 ** 8)]'),
+        ('n modulo 2^32', 'buffer[:in_bytes(n % 2 ** 32)]'), ('nothing where n is below 0', 'buffer[:in_bytes(n) if n < 2 ** 63 else 0]'),
+        ('spare bits cleared', 'bytes(x & 256 - 2 ** max(0, 8 * i + 8 - n) for i, x in enumerate(buffer[:in_bytes(n)]))')):
+    misread('shown: ' + name, SHOWN, 'return ' + part)
+
 # ---- card
 WRONG = 'if len(out) != 1024:'
 misread('card: buffer may be longer', WRONG, 'if len(out) < 1024:')
@@ -333,4 +469,8 @@ SAME = (
     ('7: z = n allowed', 'if c.z > n - 1:', 'if c.z > n:', 'all of n divides n'),
     ('7: u from 0', 'if c.u < 1:', 'if False:', 'h is not 0 and v < u'),
     ('11: output before input', ORDER, ORDER.replace('input_length, output_length', 'output_length, input_length'), 'both are 11'),
+    ('marked: 12 of the marks before that of the word', MARKED_ORDER,
+     MARKED_ORDER.replace('word_spare, marks_spare', 'marks_spare, word_spare'), 'both are 12'),
+    ('marked: 11 of the trial buffers before that of the word', MARKED_ORDER,
+     'marked_sheet, zeros_length, ones_length, word_length, marks_length, word_spare, marks_spare, none_within', 'all are 11'),
 )

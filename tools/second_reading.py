@@ -1,5 +1,6 @@
-# A second reading of document 01, with requests 2026-01, 2026-03 and 2026-04 of document 02, made from their text alone: judge, card, encode, read
-# and decode as searches and sums (rule 3 by Euclid's algorithm, in field_factors.py; `period` is for misreadings alone), with none of the product's code and none of entry_answers.py's. Polynomials over two elements are masks, as in the
+# A second reading of document 01, with requests 2026-01 and 2026-03 to 2026-05 of document 02, made from their text alone: judge, card,
+# encode, read, decode, decode_marked and shown as searches and sums (rule 3 by Euclid's algorithm, in field_factors.py; `period` is for
+# misreadings alone), with none of the product's code and none of entry_answers.py's. Polynomials over two elements are masks, as in the
 # document. What the document leaves open (card's buffer of 1,024 bytes and its 11, the last newline, the 0 that encode and read return)
 # is as docs/PROMISES.md says.
 #
@@ -392,6 +393,138 @@ def called(kind, sheet, given, out):
     return 'returned', (right ^ mask).bit_count(), word_bytes(right, n)
 
 
+# ---- words with marks (document 02, request 2026-05): `word`, `marks` and the two lent buffers are bytes
+def lowered(rows, left, pattern):
+    # a remainder less those of the rows, as far as it goes, and the pattern that it is of
+    while degree(left) in rows:
+        row = rows[degree(left)]
+        left, pattern = left ^ row[0], pattern ^ row[1]
+    return left, pattern
+
+
+@lru_cache(None)
+def rows_of(sheet, marks):
+    # patterns over the marked places, by the degrees of their remainders
+    rows = {}
+    for i in range(byte(sheet, 2)):
+        if marks >> i & 1:
+            left, pattern = lowered(rows, remainders(sheet)[i], 1 << i)
+            if left:
+                rows[degree(left)] = left, pattern
+    return rows
+
+
+def within(e, r, d):
+    # "with 2·e + r at most d - 1"
+    return 2 * e + r <= d - 1
+
+
+def marked_of(sheet, marks):
+    # "r is the number marked"
+    return marks.bit_count()
+
+
+def distance_of(sheet):
+    # "With d the sheet's distance"
+    return record(sheet)[4]
+
+
+@lru_cache(None)
+def only(sheet, word, marks):
+    # "the only codeword that differs from the received word in e unmarked places", or None: every set of e unmarked places is tried,
+    # with what the marked places can make of it
+    unmarked = [i for i in range(byte(sheet, 2)) if not marks >> i & 1]
+    wanted, rows = rest(word, generator(sheet)), rows_of(sheet, marks)
+    for e in range(len(unmarked) + 1):
+        if not within(e, marked_of(sheet, marks), distance_of(sheet)):
+            return None
+        for places in combinations(unmarked, e):
+            found = wanted
+            for i in places:
+                found ^= remainders(sheet)[i]
+            left, pattern = lowered(rows, found, sum(1 << i for i in places))
+            if left == 0:
+                return word ^ pattern
+    return None
+
+
+def marks_in(given):
+    # "a second buffer in word layout, 1 meaning marked"
+    return mask_in(given, word_weight)
+
+
+def zeros_trial(word, marks):
+    return word & ~marks
+
+
+def ones_trial(word, marks):
+    return word | marks
+
+
+def held(sheet, trial):
+    # "its decoded trial word, or the undecoded trial word if its decoding gave 13"
+    decoded = nearest(sheet, trial)
+    if decoded is None:
+        return trial
+    return decoded
+
+
+def marked_sheet(sheet, word, marks, zeros, ones):
+    return judged(sheet)
+
+
+def word_length(sheet, word, marks, zeros, ones):
+    return 11 if len(word) != in_bytes(byte(sheet, 2)) else 0
+
+
+def marks_length(sheet, word, marks, zeros, ones):
+    return 11 if len(marks) != in_bytes(byte(sheet, 2)) else 0
+
+
+def zeros_length(sheet, word, marks, zeros, ones):
+    return 11 if len(zeros) != in_bytes(byte(sheet, 2)) else 0
+
+
+def ones_length(sheet, word, marks, zeros, ones):
+    return 11 if len(ones) != in_bytes(byte(sheet, 2)) else 0
+
+
+def word_spare(sheet, word, marks, zeros, ones):
+    return 12 if mask_in(word, word_weight) >> byte(sheet, 2) else 0
+
+
+def marks_spare(sheet, word, marks, zeros, ones):
+    return 12 if marks_in(marks) >> byte(sheet, 2) else 0
+
+
+def none_within(sheet, word, marks, zeros, ones):
+    # "refusal 15, last and in 13's place, means that no such codeword exists"
+    return 15 if only(sheet, mask_in(word, word_weight), marks_in(marks)) is None else 0
+
+
+MARKED_ORDER = (marked_sheet, word_length, marks_length, zeros_length, ones_length, word_spare, marks_spare, none_within)
+
+
+def marked_called(sheet, *given):
+    # how the call ends, with its numbers, and both buffers afterwards
+    for refusal in MARKED_ORDER:
+        number = refusal(sheet, *given)
+        if number:
+            return 'refused %d' % number, *given[2:]
+    n, word, marks = byte(sheet, 2), mask_in(given[0], word_weight), marks_in(given[1])
+    right = only(sheet, word, marks)
+    zeros, ones = held(sheet, zeros_trial(word, marks)), held(sheet, ones_trial(word, marks))
+    e = ((right ^ word) & ~marks).bit_count()
+    trial = 0 if zeros == right else 1
+    return 'returned %d %d' % (e, trial), word_bytes(zeros, n), word_bytes(ones, n)
+
+
+def shown(trial, n, zeros, ones):
+    # "handed that number (any other counts as 1), n and both buffers": the "first n/8 bytes, rounded up, or all of a shorter one"
+    buffer = zeros if trial == 0 else ones
+    return buffer[:in_bytes(n)]
+
+
 def listing(sheet):
     if judged(sheet):
         return 'refused %d\n' % judged(sheet)
@@ -422,6 +555,12 @@ def told(sheet, kind, given, space):
         end, number, out = carded(sheet, b'\xaa' * int.from_bytes(given, 'little'))
         start = number if end == 'returned' else 0
         return ended('card %s %d then aa %d\n' % (end, number, out[start:].count(0xaa)) + out[:start].decode('latin-1'))
+    if kind == 6:
+        end, zeros, ones = marked_called(sheet, given[4:4 + given[0]], given[4 + given[0]:], b'\xaa' * given[2], b'\x55' * given[3])
+        return 'marked %s %s %s' % (end, zeros.hex(), ones.hex())
+    if kind == 7:
+        trial, n = int.from_bytes(given[:8], 'little'), int.from_bytes(given[8:16], 'little')
+        return 'shown ' + shown(trial, n, bytes(range(given[16])), bytes(range(128, 128 + given[17]))).hex()
     end, number, out = called(kind, sheet, given, b'\xaa' * space)
     return '%s %s %d %s' % (NAMES[kind], end, number, out.hex())
 

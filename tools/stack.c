@@ -1,32 +1,43 @@
 /* For tools/stack: calls an entry of the library on a painted stack and tells how deep the paint is gone.
  *
- *     stack ENTRY SHEET INPUT OUT_LEN
+ *     stack ENTRY SHEET INPUT OUT_LEN MARKS
  *
- * ENTRY is encode, read, decode or card, SHEET and INPUT are hexadecimal digits. It writes what the entry returned and the number of
- * bytes from the stack pointer at the call, the return address included, to the deepest byte that was written. */
+ * ENTRY is encode, read, decode, decode_marked, shown_length or card; SHEET, INPUT and MARKS are hexadecimal digits. It writes what the
+ * entry returned and the number of bytes from the stack pointer at the call, the return address included, to the deepest byte that was
+ * written. */
 #include "dunefork.h"
 #include <stdio.h>
 #include <stdlib.h>
 #include <string.h>
 
 #define SPACE ((size_t)1 << 20)
+#define ARGUMENTS 10
+#define IN_REGISTERS 6
 
-/* The entry called with the stack pointer at `top`. Its six arguments are all in registers; card takes the first four. */
-static int32_t call_at(uint8_t *top, void *f, const uint8_t *sheet, size_t sheet_len, const uint8_t *in, size_t in_len,
-                       uint8_t *out, size_t out_len) {
-    register size_t a4 __asm__("r8") = (size_t)out;
-    register size_t a5 __asm__("r9") = out_len;
+/* The entry called with the stack pointer at `top`: six arguments are in registers, the others on the stack from there up. An entry that
+ * has fewer does not look at the rest. */
+static int32_t call_at(uint8_t *top, void *f, const size_t given[ARGUMENTS]) {
+    memcpy(top, given + IN_REGISTERS, (ARGUMENTS - IN_REGISTERS) * sizeof *given);
+    size_t a0 = given[0], a1 = given[1], a2 = given[2], a3 = given[3];
+    register size_t a4 __asm__("r8") = given[4];
+    register size_t a5 __asm__("r9") = given[5];
     int64_t result;
     __asm__ volatile("movq %%rsp, %%rbx\n\t"
                      "movq %[top], %%rsp\n\t"
                      "callq *%[f]\n\t"
                      "movq %%rbx, %%rsp"
-                     : "=a"(result), "+D"(sheet), "+S"(sheet_len), "+d"(in), "+c"(in_len), "+r"(a4), "+r"(a5)
+                     : "=a"(result), "+D"(a0), "+S"(a1), "+d"(a2), "+c"(a3), "+r"(a4), "+r"(a5)
                      : [top] "r"(top), [f] "r"(f)
                      : "rbx", "r10", "r11", "cc", "memory", "xmm0", "xmm1", "xmm2", "xmm3", "xmm4", "xmm5", "xmm6", "xmm7",
                        "xmm8", "xmm9", "xmm10", "xmm11", "xmm12", "xmm13", "xmm14", "xmm15");
     return (int32_t)result;
 }
+
+struct entry {
+    const char *name;
+    void *f;
+    size_t given[ARGUMENTS];
+};
 
 static size_t from_hex(const char *text, uint8_t *bytes, size_t most) {
     size_t len = strlen(text) / 2;
@@ -39,23 +50,33 @@ static size_t from_hex(const char *text, uint8_t *bytes, size_t most) {
 }
 
 int main(int argc, char **argv) {
-    uint8_t sheet[DUNEFORK_SHEET_MAX + 1], in[DUNEFORK_WORD_MAX + 1], out[DUNEFORK_WORD_MAX + 1];
-    if (argc != 5 || (size_t)atoi(argv[4]) > sizeof out) return 2;
-    void *const entries[] = {(void *)dunefork_encode, (void *)dunefork_read, (void *)dunefork_decode, (void *)dunefork_card};
-    int which = strcmp(argv[1], "encode") == 0 ? 0 : strcmp(argv[1], "read") == 0 ? 1 : strcmp(argv[1], "decode") == 0 ? 2 : 3;
-    size_t sheet_len = from_hex(argv[2], sheet, sizeof sheet), in_len = from_hex(argv[3], in, sizeof in), deepest = 0;
     static uint8_t text[DUNEFORK_CARD_BYTES];
-    const uint8_t *second = which == 3 ? text : in;
-    if (which == 3) in_len = sizeof text;
+    uint8_t sheet[DUNEFORK_SHEET_MAX + 1], in[DUNEFORK_WORD_MAX + 1], marks[DUNEFORK_WORD_MAX + 1];
+    uint8_t out[DUNEFORK_WORD_MAX + 1] = {0}, ones[DUNEFORK_WORD_MAX + 1] = {0};
+    if (argc != 6 || (size_t)atoi(argv[4]) > sizeof out) return 2;
+    size_t s = (size_t)sheet, i = (size_t)in, m = (size_t)marks, z = (size_t)out, o = (size_t)ones, out_len = (size_t)atoi(argv[4]);
+    size_t s_len = from_hex(argv[2], sheet, sizeof sheet), i_len = from_hex(argv[3], in, sizeof in);
+    size_t m_len = from_hex(argv[5], marks, sizeof marks), n = 8 * out_len, deepest = 0;
+    const struct entry entries[] = {
+        {"encode", (void *)dunefork_encode, {s, s_len, i, i_len, z, out_len}},
+        {"read", (void *)dunefork_read, {s, s_len, i, i_len, z, out_len}},
+        {"decode", (void *)dunefork_decode, {s, s_len, i, i_len, z, out_len}},
+        {"decode_marked", (void *)dunefork_decode_marked, {s, s_len, i, i_len, m, m_len, z, out_len, o, out_len}},
+        {"shown_length", (void *)dunefork_shown_length, {1, n, z, out_len, o, out_len}},
+        {"card", (void *)dunefork_card, {s, s_len, (size_t)text, sizeof text}}};
+    const struct entry *entry = entries, *end = entries + sizeof entries / sizeof *entries;
+    while (entry < end && strcmp(argv[1], entry->name)) entry++;
+    if (entry == end) return 2;
     uint8_t *space = aligned_alloc(4096, SPACE);
+    const size_t depth = SPACE - 4096; /* the arguments lie above */
     int32_t answer = 0;
     /* twice, since a byte that was written may have the paint's own value */
     for (int paint = 0x55; paint <= 0xaa; paint += 0x55) {
         memset(space, paint, SPACE);
-        answer = call_at(space + SPACE, entries[which], sheet, sheet_len, second, in_len, out, (size_t)atoi(argv[4]));
+        answer = call_at(space + depth, entry->f, entry->given);
         size_t low = 0;
-        while (low < SPACE && space[low] == paint) low++;
-        if (SPACE - low > deepest) deepest = SPACE - low;
+        while (low < depth && space[low] == paint) low++;
+        if (depth - low > deepest) deepest = depth - low;
     }
     printf("%d %zu\n", (int)answer, deepest);
     return 0;

@@ -151,6 +151,38 @@ def decode_calls():
         yield changed, 3, bytes(2), 2, 'decode refused %s aaaa' % number
 
 
+def marked_places(word, right, n, d, most):
+    # up to so many places, wrong ones in the low half first, such that the codeword `right` stays within the bound, and both trial words
+    # within t of it
+    marks, t = 0, (d - 1) // 2
+    wrong = [i for i in range(n // 2) if (word ^ right) >> i & 1]
+    for i in wrong + [(most + 7 * i) % n for i in range(n)]:
+        more = marks | 1 << i
+        e, r = ((word ^ right) & ~more).bit_count(), more.bit_count()
+        trials = word & ~more, word | more
+        if r <= most and 2 * e + r <= d - 1 and all((trial ^ right).bit_count() <= t for trial in trials):
+            marks = more
+    return marks
+
+
+def marked_calls():
+    # decode_marked: every second word without marks, as decode is held to it, with 15 for 13; and the others with marks where the other
+    # program found a codeword within t
+    for code in codes():
+        n, _, t = numbers_of(code)
+        size, d = (n + 7) // 8, int(answer(code.sheet).split()[5])
+        for i, (word, right) in enumerate(code.received):
+            near = right is not None and (word ^ right).bit_count() <= t
+            marks = marked_places(word, right, n, d, 1 + i % d) if near and i % 2 else 0
+            given = bytes([size] * 4) + word_bytes(word, n) + word_bytes(marks, n)
+            if near:
+                held = word_bytes(right, n).hex()
+                told = 'marked returned %d 0 %s %s' % (((word ^ right) & ~marks).bit_count(), held, held)
+            else:
+                told = 'marked refused 15 %s %s' % ('aa' * size, '55' * size)
+            yield code.sheet, 6, given, 0, told
+
+
 PAGE = '''# Codes and words of other programs
 
 A program in the gate, `vectors`, is held to answers that were made elsewhere: by IT++ for BCH codes, by GAP's GUAVA for small
@@ -162,11 +194,11 @@ cyclic codes, and by a plain decoder in Python. `tools/vectors/make` makes those
 In both files a word is a mask over its places. tools/entry_answers.py puts words and messages into bytes: the first of the places in a
 byte is its highest bit in a word (document 02, request 2026-01), and its lowest in a message (document 01).
 
-`tools/vectors.py` finds the sheet of each code and turns the files into %(entries)d calls of judge, card, encode and read and
-%(decodes)d of decode. It has also written this page. The plain decoder is tools/decode_answers.py, which goes through error patterns or
-codewords; tools/entry_answers.py judges, lists, encodes and reads, and tools/boundary_answers.py does all of it again at every boundary, by a
-reading of its own (docs/MISREADINGS.md). docs/PROMISES.md says what they cover. `tools/answers.py` writes all calls and answers,
-crates/vectors/stdin and stdout.
+`tools/vectors.py` finds the sheet of each code and turns the files into %(entries)d calls of judge, card, encode and read,
+%(decodes)d of decode and %(marked)d of decode_marked. It has also written this page. The plain decoder is tools/decode_answers.py, which
+goes through error patterns or codewords; tools/marked_answers.py does so for words with marks; tools/entry_answers.py judges, lists,
+encodes and reads, and tools/boundary_answers.py does all of it again at every boundary, by a reading of its own (docs/MISREADINGS.md).
+docs/PROMISES.md says what they cover. `tools/answers.py` writes all calls and answers, crates/vectors/stdin and stdout.
 
 On a code of GUAVA's a word has 0 to 5 wrong places, on one of IT++'s 0 to t + 2, two words for each number.
 
@@ -180,6 +212,9 @@ What each is held to:
   II to IV and the bound with f of degree 4; document 002's (21, 7, 8), of which the certificate here proves 5, and
   (65, 41, 8), of which it proves 7. Document 002's (119, 68, 3) has s = 24: refusal 3. Codes without decoded words below are
   decoded in tools/decode_answers.py, by its search.
+- Neither file has words with marks. decode_marked gets each received word of theirs: without marks, where it is to find what they
+  found, or answer 15 where decode answers 13; or with up to d - 1 marks such that their codeword is the answer and lies within t places
+  of both trial words (%(with_marks)d words).
 - Sheets damaged in every byte: each draws the same refusal from every entry.
 
 | made by | n | k | d proved | d of GUAVA | t | b z f h L | codewords | decoded | refused with 13 |
@@ -202,8 +237,9 @@ def row(code):
 
 
 def main():
+    marked = [call[2][4 + call[2][0]:] for call in marked_calls()]
     print(PAGE % dict(itpp=first_line('itpp.txt'), guava=first_line('guava.txt'), entries=len(list(entry_calls())),
-                      decodes=len(list(decode_calls()))), end='')
+                      decodes=len(list(decode_calls())), marked=len(marked), with_marks=sum(any(marks) for marks in marked)), end='')
     for code in codes():
         print('| %s |' % ' | '.join(map(str, row(code))))
 

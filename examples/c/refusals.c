@@ -17,10 +17,11 @@ static const char *meaning(int32_t answer) {
     case DUNEFORK_COMMON_FACTOR: return "h and f of a certificate have a common factor";
     case DUNEFORK_PERIOD: return "two of a certificate's f(a^i x), i below n, have a common factor";
     case DUNEFORK_TERM: return "a certificate counts on a zero that the code does not have";
-    case DUNEFORK_BUFFER_LENGTH: return "the input or the buffer has not its exact length";
-    case DUNEFORK_SPARE_BIT: return "a spare bit of the input is 1";
+    case DUNEFORK_BUFFER_LENGTH: return "an input or a buffer has not its exact length";
+    case DUNEFORK_SPARE_BIT: return "a spare bit of an input is 1";
     case DUNEFORK_NONE_NEAR: return "no codeword within t places";
     case DUNEFORK_NO_CODEWORD: return "the word is no codeword";
+    case DUNEFORK_NONE_WITH_MARKS: return "no codeword with 2 e + r at most d - 1";
     default: return "done";
     }
 }
@@ -44,6 +45,13 @@ static void changed(const char *what, size_t place, uint8_t value) {
     sheet[place] = value;
     int32_t answer = dunefork_decode(sheet, sizeof sheet, word, 1, out, 1);
     tell(what, answer, out);
+}
+
+/* Decoding of a word by sheet H, where d = 3, with marks; both buffers held ee. */
+static void marked(const char *what, uint8_t word, uint8_t marks) {
+    uint8_t zeros[1] = {0xee}, ones[1] = {0xee};
+    int32_t answer = dunefork_decode_marked(sheet_h, sizeof sheet_h, &word, 1, &marks, 1, zeros, 1, ones, 1);
+    tell(what, answer, *zeros == 0xee ? ones : zeros);
 }
 
 int main(void) {
@@ -73,6 +81,9 @@ int main(void) {
     tell("message 10", dunefork_encode(sheet_h, sizeof sheet_h, spare_in_message, 1, out, 1), out);
     tell("sheet E, word c0", dunefork_decode(sheet_e, sizeof sheet_e, places_0_1, 1, out, 1), out);
     tell("read word 80", dunefork_read(sheet_h, sizeof sheet_h, place_0, 1, out, 1), out);
+    marked("marks 01", 0x00, 0x01);
+    marked("word 80, marks 40", 0x80, 0x40);
+    marked("word 00, marks e0", 0x00, 0xe0);
 
     /* Pointers may be null where the length is 0. */
     tell("no sheet", dunefork_encode(NULL, 0, zero, 1, out, 1), out);

@@ -16,7 +16,7 @@ use Rattle.field.specs.Field.{orderOfTwo}
 use Rattle.binary.specs.Factor.{degree, common, Modulus, Ratio}
 use Rattle.binary.proofs.Degree.{degree-low, degree-high, degree-eq}
 use Rattle.sheet.specs.declared.types.Certificate.{Certificate as CodeCertificate}
-use Rattle.document.specs.Answer.{Answer, returned, refused, firstOf, settle}
+use Rattle.document.specs.Answer.{Answer, returned, refused, firstOf, settleIn, settle}
 use Rattle.document.specs.Sheet.{Certificate}
 use Rattle.document.specs.Apart.{factorsApart}
 use Rattle.document.specs.Certificate.{rule1, rule2, rule3, rule4, distance}
@@ -30,24 +30,24 @@ abbrev four : Bool → Bool → Bool → Bool → List ℕ → Answer
 four a b c d v = settle (firstOf ((7, a) ∷ (8, b) ∷ (9, c) ∷ (10, d) ∷ [])) v [] [] .0
 
 hit-7 : (a b c d : Bool) (v : List ℕ) → a ≡ true → refused 7 ≡ four a b c d v
-unfolding firstOf settle
+unfolding firstOf settleIn
 hit-7 a b c d v e = ap (λ x. four x b c d v) (sym e)
 
 hit-8 : (a b c d : Bool) (v : List ℕ) → a ≡ false → b ≡ true → refused 8 ≡ four a b c d v
-unfolding firstOf settle
+unfolding firstOf settleIn
 hit-8 a b c d v e f = ap₂ (λ x y. four x y c d v) (sym e) (sym f)
 
 hit-9 : (a b c d : Bool) (v : List ℕ) → a ≡ false → b ≡ false → c ≡ true → refused 9 ≡ four a b c d v
-unfolding firstOf settle
+unfolding firstOf settleIn
 hit-9 a b c d v e f g = ap (λ z. four false false z d v) (sym g) ∙ ap₂ (λ x y. four x y c d v) (sym e) (sym f)
 
 hit-10 : (a b c d : Bool) (v : List ℕ) → a ≡ false → b ≡ false → c ≡ false → d ≡ true → refused 10 ≡ four a b c d v
-unfolding firstOf settle
+unfolding firstOf settleIn
 hit-10 a b c d v e f g h =
     ap₂ (λ z w. four false false z w v) (sym g) (sym h) ∙ ap₂ (λ x y. four x y c d v) (sym e) (sym f)
 
 miss : (a b c d : Bool) (v : List ℕ) → a ≡ false → b ≡ false → c ≡ false → d ≡ false → returned v ≡ four a b c d v
-unfolding firstOf settle
+unfolding firstOf settleIn
 miss a b c d v e f g h =
     ap₂ (λ z w. four false false z w v) (sym g) (sym h) ∙ ap₂ (λ x y. four x y c d v) (sym e) (sym f)
 

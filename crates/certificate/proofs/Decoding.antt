@@ -2,10 +2,10 @@
 -- length.
 --
 --   RightForm x word out      the lengths are right, and no spare bit is 1
---   stated-found, stated-none      the same of what is stated, whatever the sheet
 --   decode-found      a codeword within t places is what decoding writes, with the number of changed places
 --   decode-none       where there is none, 13, and the buffer as it was
 --   found-or-none     one of the two, always
+--   stated-found, stated-none, stated-either      the same of what is stated, whatever the sheet
 use mathlib.Core.Path.{_≡_, refl, sym, ap, _∙_}
 use mathlib.Core.Logic.{_⊎_, inl, inr}
 use mathlib.Core.Bool.{Bool, false}
@@ -64,6 +64,19 @@ module _ {x : Stated} (a : Accepted x) {conditions : Conditions} (q : Quiet cond
       (before ∙ first-true (13, none) [] (eq-eqb (nearestMessage x word) (2 ^ dimensionOf x) (sheet-none a word .1 f)))
       ∙ entry-quiet (decodeConditions x word out) (changed x word (decodedWord x word) ∷ []) (bytesOf wordWeight n (decodedWord x word)) out q
 
+  -- a codeword within t places, and it is written with the number of changed places; or 13, and there is none
+  pub stated-either :
+      ((c : ℕ) × CodewordOf x c × (changed x word c ≤ radiusOf x)
+      × (decodeEntry conditions x word out ≡ (returned (changed x word c ∷ []), bytesOf wordWeight n c)))
+      ⊎ (((c : ℕ) → CodewordOf x c → radiusOf x < changed x word c) × (decodeEntry conditions x word out ≡ (refused 13, out)))
+  stated-either =
+      elim (ℕ-discrete (nearestMessage x word) (2 ^ dimensionOf x)) [
+        | yes e ↦ (let f = sheet-none a word .0 e in inr (f, sym (stated-none f)))
+        | no e ↦
+            (let w = sheet-some a word (omega (arith, nearest-le a word, e)) in
+            inl (decodedWord x word, w .0, w .1, sym (stated-found (w .0) (w .1))))
+      ]
+
 -- ---- a sheet's bytes
 module _ (kind : Kind) (small : kind .mostPlaces ≤ 65535) (sheet : List ℕ) (e : judgeBy kind sheet .number ≡ 0) (word out : List ℕ)
     (r : RightForm (statedBy kind sheet) word out) where
@@ -86,15 +99,8 @@ module _ (kind : Kind) (small : kind .mostPlaces ≤ 65535) (sheet : List ℕ) (
   pub decode-none : ((c : ℕ) → CodewordOf x c → radiusOf x < changed x word c) → (refused 13, out) ≡ decoding
   decode-none f = stated-none a quiet word out r f
 
-  -- a codeword within t places, and it is written with the number of changed places; or 13, and there is none
   pub found-or-none :
       ((c : ℕ) × CodewordOf x c × (changed x word c ≤ radiusOf x)
       × (decoding ≡ (returned (changed x word c ∷ []), bytesOf wordWeight (x .n) c)))
       ⊎ (((c : ℕ) → CodewordOf x c → radiusOf x < changed x word c) × (decoding ≡ (refused 13, out)))
-  found-or-none =
-      elim (ℕ-discrete (nearestMessage x word) (2 ^ dimensionOf x)) [
-        | yes e ↦ (let f = sheet-none a word .0 e in inr (f, sym (decode-none f)))
-        | no e ↦
-            (let w = sheet-some a word (omega (arith, nearest-le a word, e)) in
-            inl (decodedWord x word, w .0, w .1, sym (decode-found (w .0) (w .1))))
-      ]
+  found-or-none = stated-either a quiet word out r

@@ -12,7 +12,7 @@
 --   nearest-closest     no other codeword is as near
 use mathlib.Core.Path.{_≡_, refl, sym, ap, ap₂, _∙_, subst}
 use mathlib.Core.Logic.{_≢_, _↔_}
-use mathlib.Core.Bool.{Bool, true}
+use mathlib.Core.Bool.{Bool}
 use mathlib.Core.List.{List}
 use Prim.Native.Nat.{ℕ, zero, suc, _+_, _-_, _^_, _≤_, _<_}
 use native.Mathlib.Decide.{decLt}
@@ -20,7 +20,6 @@ use native.Mathlib.Omega.{arith}
 use lib.Dec.{leb}
 use borrow.Author.Tests.{leb-true, le-leb}
 use Rattle.field.specs.Mask.{_⊕_}
-use Rattle.field.proofs.Search.{Least, least-is, least-most}
 use Rattle.field.proofs.Xor.{⊕-self, ⊕-norm, ⊕-lt}
 use Rattle.cyclic.proofs.Places.{count, count-z, count-s, coefficient-zero}
 use Rattle.cyclic.proofs.Generator.{codeword-add}
@@ -29,10 +28,11 @@ use Rattle.cyclic.proofs.Syndromes.{radius as radius-of, distance-bound}
 use Rattle.cyclic.proofs.Nearest.{Near, near-unique}
 use Rattle.document.specs.Sheet.{Certificate}
 use Rattle.document.specs.Coset.{dimension}
-use Rattle.document.specs.Generator.{generator, Codeword, encodeMask, messageOf, differences, nearest}
+use Rattle.document.specs.Generator.{generator, Codeword, encodeMask, differences, nearest}
 use Rattle.document.specs.Certificate.{distance, radius}
 use Rattle.document.proofs.Theory.{Length, codeOf}
-use Rattle.document.proofs.Encoding.{codeword-iff, encode-is-codeword, encode-lt, message-lt, codeword-is-encoding}
+use Rattle.document.proofs.Encoding.{codeword-iff}
+use Rattle.document.proofs.Searched.{found-le, found-some, found-is, found-none}
 use Rattle.certificate.proofs.RulesHeld.{Sound, theory, distance-is, radius-is}
 
 -- ---- places in which two words differ
@@ -87,48 +87,34 @@ module _ {n : ℕ} (l : Length n) (reps : List ℕ) (c : Certificate) (s : Sound
 
   -- ---- what is found
   abbrev close : ℕ → ℕ → Bool
-  close r message = leb (differences n r (encodeMask m g message)) t
-
-  first : (r : ℕ) → Least (close r) (2 ^ k) (found r)
-  unfolding nearest
-  first r = least-is (close r) (2 ^ k)
+  close r a = leb (differences n r a) t
 
   pub nearest-le : (r : ℕ) → found r ≤ 2 ^ k
-  nearest-le r = first r .le
-
-  most : (r x : ℕ) → close r x ≡ true → found r ≤ x
   unfolding nearest
-  most r x e = least-most (close r) (2 ^ k) x e
-
-  encoded : (message : ℕ) → message < 2 ^ k → Codeword n reps (encodeMask m g message)
-  encoded message h = record { small = encode-lt l reps message h; is = encode-is-codeword l reps message }
+  nearest-le r = found-le l reps (close r)
 
   pub nearest-some : (r : ℕ) → found r < 2 ^ k
       → Codeword n reps (encodeMask m g (found r)) × (differences n r (encodeMask m g (found r)) ≤ t)
+  unfolding nearest
   nearest-some r h =
-      (encoded (found r) h, leb-true (differences n r (encodeMask m g (found r))) t (first r .passes h))
+      let w = found-some l reps (close r) h in
+      (w .0, leb-true (differences n r (encodeMask m g (found r))) t (w .1))
 
   pub nearest-is : (r : ℕ) {a : ℕ} → Codeword n reps a → differences n r a ≤ t → (found r < 2 ^ k) × (encodeMask m g (found r) ≡ a)
+  unfolding nearest
   nearest-is r {a} x h =
-      let back : encodeMask m g (messageOf m a) ≡ a = codeword-is-encoding l reps a (x .is) in
-      let small : messageOf m a < 2 ^ k = message-lt l reps a (x .small) in
-      let hit : close r (messageOf m a) ≡ true =
-      le-leb (differences n r (encodeMask m g (messageOf m a))) t (subst (λ (z : ℕ). differences n r z ≤ t) (sym back) h) in
-      let le : found r ≤ messageOf m a = most r (messageOf m a) hit in
-      let lt : found r < 2 ^ k = omega arith in
-      let w = nearest-some r lt in
-      (lt, near-only r (w .0) x (w .1) h)
+      found-is l reps (close r)
+      (λ b c v w i j. near-only r v w (leb-true (differences n r b) t i) (leb-true (differences n r c) t j))
+      x (le-leb (differences n r a) t h)
 
   pub nearest-none : (r : ℕ) → (found r ≡ 2 ^ k) ↔ ((a : ℕ) → Codeword n reps a → t < differences n r a)
+  unfolding nearest
   nearest-none r = (
     λ e a x. elim (decLt t (differences n r a)) [
       | yes h ↦ h
-      | no h ↦ (let w = nearest-is r x (omega arith) in absurd (omega (arith, w .0, e)))
+      | no h ↦ absurd (found-none l reps (close r) .0 e a x (le-leb (differences n r a) t (omega arith)))
     ],
-    λ f. elim (decLt (found r) (2 ^ k)) [
-      | yes h ↦ (let w = nearest-some r h in absurd (omega (arith, f (encodeMask m g (found r)) (w .0), w .1)))
-      | no h ↦ omega (arith, first r .le)
-    ],
+    λ f. found-none l reps (close r) .1 (λ a x h. let i : differences n r a ≤ t = leb-true (differences n r a) t h in omega (arith, f a x)),
   )
 
   -- ---- laws of what is found

@@ -6,3 +6,4 @@ pub mod RulesHeld
 pub mod Distance
 pub mod Sheets
 pub mod Decoding
+pub mod Marks

@@ -1,7 +1,8 @@
 -- The three demands, each one theorem about the entries, and what document 02's requests state. This is the file to read first.
 --
--- It speaks of judgeOf, encodeOf, readOf, decodeOf and cardOf (document/specs/Short.antt). The contract of each entry is one equation: reply and
--- bytes are, in document 01's numbers, what these give, whatever is handed over. So what is said of them is said of the entries.
+-- It speaks of judgeOf, encodeOf, readOf, decodeOf, decodeMarkedOf and cardOf (document/specs/Short.antt) and of shownOf (Marked.antt). The
+-- contract of each entry is one equation: reply and bytes are, in the documents' numbers, what these give, whatever is handed over. So what
+-- is said of them is said of the entries.
 --
 --   Demand1, demand-1      every answer, and every refusal exactly at its turn
 --   Demand2, demand-2      codewords, encoding and reading out; certificates, and the distance that they yield
@@ -10,6 +11,7 @@
 --   Request02, request-02      2026-02, the encoder keeps only a remainder
 --   Request03, request-03      2026-03, rule 3 as document 001 needs it
 --   Request04, request-04      2026-04, the shorter certificate of two equal ones
+--   Request05, request-05      2026-05, bits the modem isn't sure of
 -- A record for each demand and for each request, a field for each clause, under the clause's words. Each demand is for every list of bytes
 -- that may be a sheet; x is what it states. The words are in specs/Published.antt and specs/Table.antt, under the documents' sentences. That
 -- the field's masks are the smallest primitive ones is mask-least of field/proofs/Smallest.antt; examples, 13 with a buffer that was not 0
@@ -20,7 +22,7 @@ use mathlib.Core.Bool.{true}
 use mathlib.Core.List.{List, [], _∷_, _++_}
 use Prim.Native.Nat.{ℕ, suc, _+_, _-_, _*_, _/_, _%_, _^_, _≤_, _<_, _∣_}
 use native.Mathlib.Omega.{arith}
-use lib.ListN.{length, getD, drop}
+use lib.ListN.{length, getD, take, drop}
 use Rattle.field.specs.Search.{total}
 use Rattle.field.specs.Mask.{_⊕_, coefficient, remainder}
 use Rattle.field.specs.Field.{orderOfTwo}
@@ -32,21 +34,23 @@ use Rattle.document.specs.Certificate.{rule3, distance, radius}
 use Rattle.document.specs.Judge.{certificateConditions, dimensionOf, workingOf, workingCertificate}
 use Rattle.document.specs.OtherTest.{conditionsWith}
 use Rattle.document.specs.Entry.{CodewordOf, generatorOf, radiusOf, wordOf, changed}
+use Rattle.document.specs.Marked.{markedOnes, markedZeros, marksCount, unmarkedChanged, WithinMarks, trialWord, shownOf}
 use Rattle.document.specs.Card.{refusedLine, acceptedLines, certificateText, radiusText}
-use Rattle.document.specs.Short.{short, stated, refusalsOf, judgeOf, encodeOf, readOf, decodeOf, listing, cardOf}
+use Rattle.document.specs.Short.{short, stated, refusalsOf, judgeOf, encodeOf, readOf, decodeOf, decodeMarkedOf, listing, cardOf}
 use Rattle.document.proofs.Meaning.{differ-count}
 use Rattle.document.proofs.Tested.{conditions-are}
 use Rattle.document.proofs.Working.{radius-rises, radius-most}
 use Rattle.codeword.proofs.Places.{mask-lt, mask-coefficient}
+use Rattle.certificate.proofs.Marks.{half-or-half}
 use Rattle.code.specs.Published.{IsAccepted, SheetRead, Bytes, Word, Message, InDefiningSet, SetSize, ZeroAt}
-use Rattle.code.specs.Published.{HasDegree, Divides, Rule1, Rule3, Published, Rounded, Working, WorkingIs, Systematic, WordDecoded, kept}
+use Rattle.code.specs.Published.{HasDegree, Divides, Rule1, Rule3, Published, Rounded, Working, WorkingIs, Systematic, WordDecoded, MarkedCall, WordShown, kept}
 use Rattle.code.specs.Turns.{FirstThatHolds}
-use Rattle.code.specs.Table.{SpareBit, NoneNear, sheetTurns, encodeTurns, readTurns, decodeTurns, cardTurns}
-use Rattle.code.specs.Table.{NoneNearSaid, NoCodewordSaid, Answered}
+use Rattle.code.specs.Table.{SpareBit, NoneNear, NoneWithMarks, sheetTurns, encodeTurns, readTurns, decodeTurns, markedTurns, cardTurns}
+use Rattle.code.specs.Table.{NoneNearSaid, NoCodewordSaid, NoneWithMarksSaid, Answered}
 use Rattle.code.specs.Before.{PeriodCoprime, periodCoprime, judgeBefore, WorkingBefore, workingBefore, decodeWith}
-use Rattle.code.proofs.Tried.{judge-answered, encode-answered, read-answered, decode-answered, card-answered}
-use Rattle.code.proofs.Refusing.{read-sheet-bytes, sheet-first, card-writes, text-refused-iff, text-listed-iff}
-use Rattle.code.proofs.Refusing.{thirteen-iff, fourteen-iff}
+use Rattle.code.proofs.Tried.{judge-answered, encode-answered, read-answered, decode-answered, marked-answered, card-answered}
+use Rattle.code.proofs.Refusing.{read-sheet-bytes, sheet-first, marked-first, card-writes, text-refused-iff, text-listed-iff}
+use Rattle.code.proofs.Refusing.{thirteen-iff, fourteen-iff, fifteen-iff}
 use Rattle.code.proofs.Fits.{listing-fits}
 use Rattle.code.proofs.Worded.{word-spare-said, message-spare-said, mask-word, word-one, degree-said, dimension-said, generator-said}
 use Rattle.code.proofs.Worded.{generator-degree-said, multiple-said, zeros-said}
@@ -57,6 +61,9 @@ use Rattle.code.proofs.RuleThree.{period-said, period-suffices, nine-al
 use Rattle.code.proofs.Rules.{modulus}
 use Rattle.code.proofs.Kept.{kept-said, encoded-said, word-said}
 use Rattle.code.proofs.Chosen.{working-only, record-chosen, card-chosen, before-said, radius-still, decoded-chosen, decoded-still}
+use Rattle.code.proofs.Uncertain.{marks-counted, unmarked-counted, trial-places, bound-same, only-said, exists-said, fifteen-said}
+use Rattle.code.proofs.Uncertain.{shown-said, held-said, one-decodes, zeros-decoded, ones-decoded, unmarked-said, unmarked-none}
+use Rattle.code.proofs.Uncertain.{shown-zero, shown-other, shown-short}
 
 module _ (sheet : List ℕ) where
   abbrev x : Stated
@@ -79,18 +86,22 @@ module _ (sheet : List ℕ) where
   pub record Demand1 : Type 0 where
     -- what is stated is what the sheet's bytes say
     pub bytes : SheetRead sheet x
-    -- each entry answers 0, or 1 to 14 with no values and the lent buffer as it was; and the number r exactly when condition r holds and no
-    -- earlier one in document 01's order does
-    pub judge : Answered (sheetTurns sheet) (judgeOf sheet, []) []
+    -- each entry answers 0, or 1 to 15 with no values and the lent buffers as they were; and the number r exactly when condition r holds and
+    -- no earlier one in the documents' order does
+    pub judge : Answered {B = List ℕ} (sheetTurns sheet) (judgeOf sheet, []) []
     pub encode : (message out : List ℕ) → Answered (encodeTurns sheet message out) (encodeOf sheet message out) out
     pub read : (word out : List ℕ) → Answered (readTurns sheet word out) (readOf sheet word out) out
     pub decode : (word out : List ℕ) → Answered (decodeTurns sheet word out) (decodeOf sheet word out) out
+    pub decode-marked : (word marks zeros ones : List ℕ)
+        → Answered (markedTurns sheet word marks zeros ones) (decodeMarkedOf sheet word marks zeros ones) (zeros, ones)
     -- card's only refusal is 11, before the sheet is judged
     pub card : (out : List ℕ) → Answered (cardTurns out) (cardOf sheet out) out
     -- every entry but card refuses with the sheet's refusal, if it has one
     pub sheet-refusal : (input out : List ℕ) (r : ℕ) → judgeOf sheet ≡ refused r
         → (encodeOf sheet input out ≡ (refused r, out)) × (readOf sheet input out ≡ (refused r, out))
         × (decodeOf sheet input out ≡ (refused r, out))
+    pub sheet-refusal-marked : (word marks zeros ones : List ℕ) (r : ℕ) → judgeOf sheet ≡ refused r
+        → decodeMarkedOf sheet word marks zeros ones ≡ (refused r, (zeros, ones))
     -- card writes its text, returns the text's length, and leaves what stood after it
     pub card-text : (out : List ℕ) → length out ≡ 1024
         → cardOf sheet out ≡ (returned (length (listing sheet) ∷ []), listing sheet ++ drop (length (listing sheet)) out)
@@ -105,6 +116,9 @@ module _ (sheet : List ℕ) where
     pub thirteen : (word out : List ℕ) → (decodeOf sheet word out .0 .number ≡ 13) ↔ NoneNearSaid sheet word out
     -- 14 says, whatever was handed over: the sheet is accepted, lengths and spare bits are right, and the word is no codeword
     pub fourteen : (word out : List ℕ) → (readOf sheet word out .0 .number ≡ 14) ↔ NoCodewordSaid sheet word out
+    -- 15 says, whatever was handed over: the sheet is accepted, lengths and spare bits are right, and no codeword has 2·e + r at most d - 1
+    pub fifteen : (word marks zeros ones : List ℕ) → (decodeMarkedOf sheet word marks zeros ones .0 .number ≡ 15)
+        ↔ NoneWithMarksSaid sheet word marks zeros ones
 
   -- ---- demand 2: for every accepted sheet, in bytes
   pub record Demand2 : Type 0 where
@@ -242,6 +256,65 @@ module _ (sheet : List ℕ) where
     -- "and every received word decodes as before": for every sheet, word and buffer, by the choice before it is the same
     pub decoded-still : (word out : List ℕ) → decodeWith workingBefore sheet word out ≡ decodeOf sheet word out
 
+  -- ---- 2026-05, bits the modem isn't sure of: r is the number of marked places, and e that of the unmarked ones in which a codeword c and the
+  -- received word differ. WithinMarks is "2·e + r at most d - 1", and MarkedCall says that the sheet is accepted, lengths are right and no
+  -- spare bit is 1.
+  pub record Request05 : Type 0 where
+    -- "1 meaning marked; r is the number marked"; "in e unmarked places": place by place
+    pub r-is : (marks : List ℕ) → marksCount x marks ≡ total (x .n) (λ i. place wordWeight marks i)
+    pub e-is : (word marks : List ℕ) (c : ℕ) → unmarkedChanged x word marks c
+        ≡ total (x .n) (λ i. (1 - place wordWeight marks i) * ((place wordWeight word i + coefficient i c) % 2))
+    -- "Set all marked bits to 0, then to 1": the trial word of the bit v is a word, v where it is marked, and the received word elsewhere
+    pub trials : (v : ℕ) → v < 2 → (word marks : List ℕ) → Word x (trialWord x v word marks) × Bytes (trialWord x v word marks)
+        × ((i : ℕ) → i < x .n → (place wordWeight marks i ≡ 1 → place wordWeight (trialWord x v word marks) i ≡ v)
+        × (place wordWeight marks i ≡ 0 → place wordWeight (trialWord x v word marks) i ≡ place wordWeight word i))
+    -- at most one codeword has 2·e + r at most d - 1
+    pub only : IsAccepted sheet → (word marks : List ℕ) (b c : ℕ) → CodewordOf x b → CodewordOf x c
+        → WithinMarks x word marks b → WithinMarks x word marks c → b ≡ c
+    -- the number is 0 ⟺ there is one, and 15 ⟺ there is none
+    pub exists : (word marks zeros ones : List ℕ) → MarkedCall sheet word marks zeros ones
+        → (decodeMarkedOf sheet word marks zeros ones .0 .number ≡ 0) ↔ ((c : ℕ) × CodewordOf x c × WithinMarks x word marks c)
+    pub none : (word marks zeros ones : List ℕ) → MarkedCall sheet word marks zeros ones
+        → (decodeMarkedOf sheet word marks zeros ones .0 .number ≡ 15) ↔ NoneWithMarks x word marks
+    -- it is returned with e: the second call, handed the trial that is told, gives it
+    pub answer : (word marks zeros ones : List ℕ) → MarkedCall sheet word marks zeros ones
+        → decodeMarkedOf sheet word marks zeros ones .0 .number ≡ 0
+        → WordShown x word marks (decodeMarkedOf sheet word marks zeros ones)
+    -- "After an answer each holds its decoded trial word, or the undecoded trial word if its decoding gave 13": as decoding leaves a buffer
+    -- that holds the trial word
+    pub held : (word marks zeros ones : List ℕ) → MarkedCall sheet word marks zeros ones
+        → decodeMarkedOf sheet word marks zeros ones .0 .number ≡ 0
+        → (decodeMarkedOf sheet word marks zeros ones .1 .0 ≡ decodeOf sheet (trialWord x 0 word marks) (trialWord x 0 word marks) .1)
+        × (decodeMarkedOf sheet word marks zeros ones .1 .1 ≡ decodeOf sheet (trialWord x 1 word marks) (trialWord x 1 word marks) .1)
+    -- if c is the answer, at least one of the two trial words decodes to it: its marked places hold at most r/2 ones or at most r/2 zeros, as
+    -- those of any word do, and that tells which
+    pub decodes : IsAccepted sheet → (word marks : List ℕ) {c : ℕ} → CodewordOf x c → WithinMarks x word marks c → (out : List ℕ)
+        → length out ≡ (x .n + 7) / 8
+        → (decodeOf sheet (trialWord x 0 word marks) out ≡ (returned (changed x (trialWord x 0 word marks) c ∷ []), bytesOf wordWeight (x .n) c))
+        ⊎ (decodeOf sheet (trialWord x 1 word marks) out ≡ (returned (changed x (trialWord x 1 word marks) c ∷ []), bytesOf wordWeight (x .n) c))
+    pub half : (marks : List ℕ) (c : ℕ) → (2 * markedOnes (x .n) (wordOf x marks) c ≤ marksCount x marks)
+        ⊎ (2 * markedZeros (x .n) (wordOf x marks) c ≤ marksCount x marks)
+    pub zeros-decode : IsAccepted sheet → (word marks : List ℕ) {c : ℕ} → CodewordOf x c → WithinMarks x word marks c
+        → (out : List ℕ) → length out ≡ (x .n + 7) / 8 → 2 * markedOnes (x .n) (wordOf x marks) c ≤ marksCount x marks
+        → decodeOf sheet (trialWord x 0 word marks) out ≡ (returned (changed x (trialWord x 0 word marks) c ∷ []), bytesOf wordWeight (x .n) c)
+    pub ones-decode : IsAccepted sheet → (word marks : List ℕ) {c : ℕ} → CodewordOf x c → WithinMarks x word marks c
+        → (out : List ℕ) → length out ≡ (x .n + 7) / 8 → 2 * markedZeros (x .n) (wordOf x marks) c ≤ marksCount x marks
+        → decodeOf sheet (trialWord x 1 word marks) out ≡ (returned (changed x (trialWord x 1 word marks) c ∷ []), bytesOf wordWeight (x .n) c)
+    -- "With no mark, the answer is the ordinary one, since 2·e at most d - 1 is the same as e at most t": decode's count and word, trial 0,
+    -- and 15 exactly where decode answers 13
+    pub bound : (e : ℕ) → (2 * e ≤ d - 1) ↔ (e ≤ t)
+    pub no-mark : (word marks zeros ones : List ℕ) → MarkedCall sheet word marks zeros ones
+        → marksCount x marks ≡ 0 → (out : List ℕ) → length out ≡ (x .n + 7) / 8 → (count : ℕ) (decoded : List ℕ) → decodeOf sheet word out ≡ (returned (count ∷ []), decoded)
+        → decodeMarkedOf sheet word marks zeros ones ≡ (returned (count ∷ 0 ∷ []), (decoded, decoded))
+    pub no-mark-none : (word marks zeros ones : List ℕ) → MarkedCall sheet word marks zeros ones
+        → marksCount x marks ≡ 0 → (out : List ℕ) → length out ≡ (x .n + 7) / 8
+        → (decodeMarkedOf sheet word marks zeros ones .0 .number ≡ 15) ↔ (decodeOf sheet word out .0 .number ≡ 13)
+    -- the second call: "that buffer's first n/8 bytes, rounded up", "(any other counts as 1)", "or all of a shorter one". That it "copies nothing
+    -- and refuses nothing" is its type: it returns a part of a lent buffer.
+    pub shown-zero : (n : ℕ) (zeros ones : List ℕ) → shownOf 0 n zeros ones ≡ take ((n + 7) / 8) zeros
+    pub shown-other : (trial n : ℕ) (zeros ones : List ℕ) → trial ≢ 0 → shownOf trial n zeros ones ≡ take ((n + 7) / 8) ones
+    pub shown-short : (n : ℕ) (buffer : List ℕ) → length buffer ≤ (n + 7) / 8 → take ((n + 7) / 8) buffer ≡ buffer
+
 -- ---- of bytes alone: 2026-01, highest bit first: for all bytes; spare bits for a buffer of the right length
 pub record Request01 : Type 0 where
   -- "place i of a word has weight 2^(7 - i mod 8) in byte i div 8"
@@ -263,14 +336,17 @@ demand-1 sheet = record {
   encode = encode-answered sheet;
   read = read-answered sheet;
   decode = decode-answered sheet;
+  decode-marked = marked-answered sheet;
   card = card-answered sheet;
   sheet-refusal = sheet-first sheet;
+  sheet-refusal-marked = marked-first sheet;
   card-text = card-writes sheet;
   card-fits = listing-fits sheet;
   card-refusal = text-refused-iff sheet;
   card-listing = text-listed-iff sheet;
   thirteen = thirteen-iff sheet;
   fourteen = fourteen-iff sheet;
+  fifteen = fifteen-iff sheet;
 }
 
 pub demand-2 : (sheet : List ℕ) → Demand2 sheet
@@ -348,4 +424,26 @@ request-04 sheet = record {
   radius-still = radius-still (stated sheet);
   in-its-place = decoded-chosen sheet;
   decoded-still = decoded-still sheet;
+}
+
+pub request-05 : (sheet : List ℕ) → Request05 sheet
+request-05 sheet = record {
+  r-is = marks-counted (stated sheet);
+  e-is = unmarked-counted (stated sheet);
+  trials = trial-places (stated sheet);
+  only = only-said sheet;
+  exists = exists-said sheet;
+  none = fifteen-said sheet;
+  answer = shown-said sheet;
+  held = held-said sheet;
+  decodes = one-decodes sheet;
+  half = half-or-half (stated sheet);
+  zeros-decode = zeros-decoded sheet;
+  ones-decode = ones-decoded sheet;
+  bound = bound-same (stated sheet);
+  no-mark = unmarked-said sheet;
+  no-mark-none = unmarked-none sheet;
+  shown-zero = shown-zero;
+  shown-other = shown-other;
+  shown-short = shown-short;
 }

@@ -1,7 +1,7 @@
 -- The exits of the entries on words.
 --
---   encode-sheet, read-sheet, decode-sheet      a refused sheet at each
---   encode-accepted, read-accepted, decode-accepted      an accepted one: its conditions may be left out
+--   encode-sheet, read-sheet, decode-sheet, marked-sheet      a refused sheet at each
+--   encode-accepted, read-accepted, decode-accepted, marked-accepted      an accepted one: its conditions may be left out
 --   encode-message, encode-out, encode-spare, encode-done      the exits of encoding a message, of whatever was stated
 --   read-word, read-out, read-spare, read-none, read-done      those of reading out
 use mathlib.Core.Path.{_≡_, sym, ap, ap₂, _∙_}
@@ -20,6 +20,7 @@ use Rattle.document.specs.Generator.{generator, isCodeword, encodeMask, message
 use Rattle.document.specs.Judge.{dimensionOf, judgeEntry}
 use Rattle.document.specs.Entry.{wrongSize, generatorOf, wordOf, encodeConditions, encodedWord, encodeEntry, readConditions, readEntry}
 use Rattle.document.specs.Entry.{decodeConditions, decodeEntry}
+use Rattle.document.specs.Marked.{markedConditions, markedEntry}
 use Rattle.document.proofs.Settled.{entry-sheet, entry-quiet, entry-refused, entry-done, first-nil, size-wrong, size-right}
 use Rattle.document.proofs.Chain.{Quiet, first-true, first-false}
 use Rattle.judging.proofs.Weighing.{number-pos}
@@ -51,6 +52,16 @@ module _ (sheet : Conditions) (x : Stated) (input out : List ℕ) where
   pub decode-accepted : Quiet sheet → decodeEntry [] x input out ≡ decodeEntry sheet x input out
   unfolding decodeEntry
   decode-accepted q = entry-quiet (decodeConditions x input out) _ _ out q
+
+module _ (sheet : Conditions) (x : Stated) (word marks zeros ones : List ℕ) where
+  pub marked-sheet : (q : Refusal) → refused (numberOf q) ≡ judgeEntry sheet x
+      → (refused (numberOf q), (zeros, ones)) ≡ markedEntry sheet x word marks zeros ones
+  unfolding markedEntry
+  marked-sheet q e = entry-sheet sheet x (markedConditions x word marks zeros ones) _ _ (zeros, ones) (numberOf q) (number-pos q) e
+
+  pub marked-accepted : Quiet sheet → markedEntry [] x word marks zeros ones ≡ markedEntry sheet x word marks zeros ones
+  unfolding markedEntry
+  marked-accepted q = entry-quiet (markedConditions x word marks zeros ones) _ _ (zeros, ones) q
 
 -- ---- what is stated, with the code's numbers
 module _ {n k s : ℕ} {reps : List ℕ} (u : Usable n k s reps) (x : Stated) (en : n ≡ x .n) (er : reps ≡ x .representatives) where

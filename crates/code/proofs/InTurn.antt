@@ -13,7 +13,7 @@ use mathlib.Core.List.{List, [], _∷_, _++_}
 use Prim.Native.Nat.{ℕ, zero, suc, _≤_, _<_}
 use native.Mathlib.Omega.{arith}
 use Rattle.field.proofs.Search.{true-ne-false}
-use Rattle.document.specs.Answer.{Conditions, firstOf, settle}
+use Rattle.document.specs.Answer.{Conditions, firstOf, settleIn, settle}
 use Rattle.document.proofs.Sane.{settle-number}
 use Rattle.document.proofs.Chain.{Quiet, silent, passing, first-true, first-false}
 use Rattle.document.proofs.Reflect.{Says}
@@ -100,15 +100,16 @@ module _ (top : ℕ) where
       (p .0, p .1, p .2, p .3, λ n. said-append a s b t (p .4 n) (λ h. q (n, h)))
 
 -- ---- what is answered
-settled-alone : (r : ℕ) (v w old : List ℕ) → 0 < settle r v w old .0 .number
-    → (settle r v w old .0 .values ≡ []) × (settle r v w old .1 ≡ old)
-unfolding settle
+settled-alone : {B : Type 0} (r : ℕ) (v : List ℕ) (w old : B) → 0 < settleIn r v w old .0 .number
+    → (settleIn r v w old .0 .values ≡ []) × (settleIn r v w old .1 ≡ old)
+unfolding settleIn
 settled-alone zero v w old h = absurd (omega arith)
 settled-alone (suc r) v w old h = (refl, refl)
 
-pub answered : (l : Conditions) (t : Turns) → Said lastRefusal l t → (v w old : List ℕ) → Answered t (settle (firstOf l) v w old) old
+pub answered : {B : Type 0} (l : Conditions) (t : Turns) → Said lastRefusal l t → (v : List ℕ) (w old : B)
+    → Answered t (settleIn (firstOf l) v w old) old
 answered l t s v w old =
-    let e : settle (firstOf l) v w old .0 .number ≡ firstOf l = settle-number (firstOf l) v w old in
+    let e : settleIn (firstOf l) v w old .0 .number ≡ firstOf l = settle-number (firstOf l) v w old in
     record {
       range = subst (λ (r : ℕ). r ≤ lastRefusal) (sym e) (said-le lastRefusal l t s);
       done = (λ q. said-none lastRefusal l t s .0 (sym e ∙ q), λ n. e ∙ said-none lastRefusal l t s .1 n);
@@ -118,9 +119,9 @@ answered l t s v w old =
 
 -- judging has no lent buffer
 judged-pair : (r : ℕ) (v : List ℕ) → settle r v [] [] ≡ (settle r v [] [] .0, [])
-unfolding settle
+unfolding settleIn
 judged-pair zero v = refl
 judged-pair (suc r) v = refl
 
-pub judged-answered : (l : Conditions) (t : Turns) → Said lastRefusal l t → (v : List ℕ) → Answered t (settle (firstOf l) v [] [] .0, []) []
-judged-answered l t s v = subst (λ y. Answered t y []) (judged-pair (firstOf l) v) (answered l t s v [] [])
+pub judged-answered : (l : Conditions) (t : Turns) → Said lastRefusal l t → (v : List ℕ) → Answered {B = List ℕ} t (settle (firstOf l) v [] [] .0, []) []
+judged-answered l t s v = subst (λ y. Answered {B = List ℕ} t y []) (judged-pair (firstOf l) v) (answered {B = List ℕ} l t s v [] [])

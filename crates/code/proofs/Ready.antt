@@ -1,6 +1,7 @@
 -- The entries on an accepted sheet of any kind, from its parts.
 --
---   number-le          a refusal's number is at most 14
+--   number-le          a refusal's number is at most 15
+--   record-distance    d of the record is the sheet's distance
 --   first-is           a refusal's number is that of the first condition that holds
 --   Ready, ready       what an accepted sheet grants the entries: its numbers, and its representatives as they were read
 --   part, usable-part, given, terms-few, states      what encoding, reading out and decoding need
@@ -21,14 +22,15 @@ use Rattle.binary.specs.Factor.{degree}
 use Rattle.document.specs.declared.types.Refusal.{Refusal}
 use Rattle.document.specs.declared.types.Refusal.the-variants.{SheetLength, CodeLength, FieldDegree, Header, Representative}
 use Rattle.document.specs.declared.types.Refusal.the-variants.{NoMessage, Range, CommonFactor, Period, Term, BufferLength, SpareBit}
-use Rattle.document.specs.declared.types.Refusal.the-variants.{NoneNear, NoCodeword}
+use Rattle.document.specs.declared.types.Refusal.the-variants.{NoneNear, NoCodeword, NoneWithMarks}
 use Rattle.document.specs.Answer.{Answer, returned, refused, numberOf, firstOf}
 use Rattle.document.specs.Sheet.{Certificate, Stated, certificateAt, Kind, statedBy}
 use Rattle.document.specs.Coset.{smallest, inSet}
 use Rattle.document.specs.Generator.{generator}
 use Rattle.document.specs.Certificate.{distance, radius}
-use Rattle.document.specs.Judge.{wrongRepresentative, judgeConditions, workingOf, workingCertificate}
+use Rattle.document.specs.Judge.{wrongRepresentative, judgeConditions, workingOf, workingCertificate, recordOf}
 use Rattle.document.specs.Entry.{radiusOf}
+use Rattle.document.specs.Marked.{distanceOf}
 use Rattle.document.proofs.Chain.{Quiet}
 use Rattle.document.proofs.Stated.{Counted, counted, odd-to, tabulated-length}
 use Rattle.document.proofs.Acceptance.{judgeBy, judge-number, quiet-of, quiet-rules}
@@ -48,7 +50,7 @@ use Rattle.listing.specs.Accepted as Page
 use Rattle.code.specs.Stating.{CardListable, CardLists, CardListed, JudgedInto}
 use Rattle.code.proofs.Accepted.{Limits, Recorded, judged-record, recorded, conditions, coded, usable, usable-by, part-is}
 
-pub number-le : (q : Refusal) → numberOf q ≤ 14
+pub number-le : (q : Refusal) → numberOf q ≤ 15
 number-le SheetLength = omega arith
 number-le CodeLength = omega arith
 number-le FieldDegree = omega arith
@@ -63,9 +65,16 @@ number-le BufferLength = omega arith
 number-le SpareBit = omega arith
 number-le NoneNear = omega arith
 number-le NoCodeword = omega arith
+number-le NoneWithMarks = omega arith
 
 pub first-is : (kind : Kind) (sheet : List ℕ) {r : ℕ} → refused r ≡ judgeBy kind sheet → firstOf (judgeConditions kind sheet) ≡ r
 first-is kind sheet e = sym (judge-number kind sheet) ∙ sym (ap (λ (a : Answer). a .number) e)
+
+-- d of the record is the sheet's distance
+pub record-distance : {kind : Kind} {sheet w : List ℕ} {answer : Answer} {n k s i d t l : ℕ} → JudgedInto kind sheet w answer
+    → returned (n ∷ k ∷ s ∷ i ∷ d ∷ t ∷ l ∷ []) ≡ answer → d ≡ distanceOf (statedBy kind sheet)
+unfolding recordOf
+record-distance {kind} {sheet} j e = ap (λ v. getD v 4 0) (judged-record kind sheet (e ∙ j .is) .1)
 
 -- ---- an accepted sheet
 pub record Ready (kind : Kind) (sheet : List ℕ) (n k s working t : ℕ) (w : List ℕ) : Type 0 where

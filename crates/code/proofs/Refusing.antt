@@ -1,21 +1,22 @@
 -- What single refusals say.
 --
 --   read-sheet-bytes         what is stated is what a sheet's bytes say
---   sheet-first              every entry but card refuses with the sheet's refusal
+--   sheet-first, marked-first      every entry but card refuses with the sheet's refusal
 --   card-writes, text-refused-iff, text-listed-iff      the text that card writes
---   thirteen-iff, fourteen-iff      what 13 and 14 say, whatever was handed over
+--   thirteen-iff, fourteen-iff, fifteen-iff      what 13, 14 and 15 say, whatever was handed over
 use mathlib.Core.Path.{_≡_, refl, sym, ap, _∙_}
 use mathlib.Core.Logic.{_↔_, inl, inr}
 use mathlib.Core.List.{List, [], _∷_, _++_}
 use Prim.Native.Nat.{ℕ, zero, suc, _+_, _*_, _<_}
 use native.Mathlib.Omega.{arith}
 use lib.ListN.{length, drop}
-use Rattle.document.specs.Answer.{Answer, returned, refused, Conditions, firstOf, settle}
+use Rattle.document.specs.Answer.{Answer, returned, refused, Conditions, firstOf, settleIn, settle}
 use Rattle.document.specs.Sheet.{Certificate, Stated, certificateAt}
 use Rattle.document.specs.Judge.{recordOf, judgeEntry}
 use Rattle.document.specs.Entry.{encodeConditions, encodeEntry, readConditions, readEntry, decodeConditions, decodeEntry}
+use Rattle.document.specs.Marked.{markedConditions, markedEntry}
 use Rattle.document.specs.Card.{refusedLine, acceptedLines, listingFor, listingOf, cardConditions, cardEntry}
-use Rattle.document.specs.Short.{short, byteAt, stated, refusalsOf, judgeOf, encodeOf, readOf, decodeOf, listing, cardOf}
+use Rattle.document.specs.Short.{short, byteAt, stated, refusalsOf, judgeOf, encodeOf, readOf, decodeOf, decodeMarkedOf, listing, cardOf}
 use Rattle.document.proofs.Sane.{settle-number}
 use Rattle.document.proofs.Stated.{representatives-length, representative-is, certificates-length, certificate-is, length-is}
 use Rattle.document.proofs.Chain.{first-quiet, first-keep}
@@ -26,20 +27,20 @@ use Rattle.document.proofs.CardIs.{refused-injective, accepted-other}
 use Rattle.certificate.proofs.Sheets as Sheets
 use Rattle.code.specs.Turns.{Turns, FirstThatHolds}
 use Rattle.code.specs.Published.{IsAccepted, CertificateRead, SheetRead}
-use Rattle.code.specs.Table.{NoneNearSaid, NoCodewordSaid, decodeOwn, readOwn, lastRefusal}
+use Rattle.code.specs.Table.{NoneNearSaid, NoCodewordSaid, NoneWithMarksSaid, decodeOwn, readOwn, markedOwn, lastRefusal}
 use Rattle.code.proofs.InTurn.{stable, said-none, said-first}
-use Rattle.code.proofs.Tried.{card-said, read-own, decode-own}
+use Rattle.code.proofs.Tried.{card-said, read-own, decode-own, marked-own}
 
 -- ---- the text, by the number of the sheet's first condition
 text-accepted : (x : Stated) (r : ℕ) → (listingFor 0 x ≡ refusedLine r) ↔ (settle 0 (recordOf x) [] [] .0 ≡ refused r)
-unfolding listingFor settle recordOf
+unfolding listingFor settleIn recordOf
 text-accepted x r = (
   λ e. absurd (accepted-other x r e),
   λ e. let z : _≡_ {A = ℕ} 7 0 = ap (λ (a : Answer). length (a .values)) e in absurd (omega arith),
 )
 
 text-refused : (x : Stated) (q r : ℕ) → (listingFor (suc q) x ≡ refusedLine r) ↔ (settle (suc q) (recordOf x) [] [] .0 ≡ refused r)
-unfolding listingFor settle
+unfolding listingFor settleIn
 text-refused x q r = (
   λ e. ap refused (refused-injective (suc q) r e),
   λ e. ap (λ (a : Answer). refusedLine (a .number)) e,
@@ -47,7 +48,7 @@ text-refused x q r = (
 
 -- what is returned has values, and a refusal none
 never-zero-at : (x : Stated) (q : ℕ) → ¬ (settle q (recordOf x) [] [] .0 ≡ refused 0)
-unfolding settle recordOf
+unfolding settleIn recordOf
 never-zero-at x zero e = let z : _≡_ {A = ℕ} 7 0 = ap (λ (a : Answer). length (a .values)) e in omega arith
 never-zero-at x (suc q) e = let z : suc q ≡ 0 = ap (λ (a : Answer). a .number) e in omega arith
 
@@ -95,10 +96,17 @@ module _ (sheet : List ℕ) where
     sym (entry-sheet (refusalsOf sheet) x (decodeConditions x input out) _ _ out r h (sym e)),
   )
 
+  pub marked-first : (word marks zeros ones : List ℕ) (r : ℕ) → judgeOf sheet ≡ refused r
+      → decodeMarkedOf sheet word marks zeros ones ≡ (refused r, (zeros, ones))
+  unfolding markedEntry
+  marked-first word marks zeros ones zero e = absurd (never-zero e)
+  marked-first word marks zeros ones (suc q) e =
+      sym (entry-sheet (refusalsOf sheet) x (markedConditions x word marks zeros ones) _ _ (zeros, ones) (suc q) (omega arith) (sym e))
+
   -- ---- card
   pub card-writes : (out : List ℕ) → length out ≡ 1024
       → cardOf sheet out ≡ (returned (length (listing sheet) ∷ []), listing sheet ++ drop (length (listing sheet)) out)
-  unfolding cardEntry settle
+  unfolding cardEntry settleIn
   card-writes out e =
       ap (λ (r : ℕ). settle r (length (listing sheet) ∷ []) (listing sheet ++ drop (length (listing sheet)) out) out)
       (said-none lastRefusal (cardConditions 1024 out) _ (card-said out) .1 (λ n. n e, tt))
@@ -112,14 +120,14 @@ module _ (sheet : List ℕ) where
       go (suc q) = text-refused x q r
 
   pub text-listed-iff : (listing sheet ≡ acceptedLines x) ↔ IsAccepted sheet
-  unfolding listingOf listingFor judgeEntry settle
+  unfolding listingOf listingFor judgeEntry settleIn
   text-listed-iff = go (firstOf (refusalsOf sheet))
     where
       go : (q : ℕ) → (listingFor q x ≡ acceptedLines x) ↔ (settle q (recordOf x) [] [] .0 .number ≡ 0)
       go zero = (λ e. refl, λ e. refl)
       go (suc q) = (λ e. absurd (accepted-other x (suc q) (sym e)), λ e. absurd (omega arith))
 
-  -- ---- 13 and 14
+  -- ---- 13, 14 and 15
   own-first : (own : Conditions) (r : ℕ) → 10 < r → (firstOf (refusalsOf sheet ++ own) ≡ r) ↔ ((firstOf (refusalsOf sheet) ≡ 0) × (firstOf own ≡ r))
   own-first own r h = (
     there (firstOf (refusalsOf sheet)) refl,
@@ -191,5 +199,56 @@ module _ (sheet : List ℕ) where
               z,
               said-first lastRefusal l t (read-own sheet word out) 14 (omega arith) .1
                   (inr (λ n. n (s .word-long), inr (λ n. n (s .out-long), inr (s .no-spare, inl (refl, s .none))))),
+            )),
+      )
+
+  fifteen-rows : (word marks zeros ones : List ℕ) → IsAccepted sheet → FirstThatHolds (markedOwn x word marks zeros ones) 15
+      → NoneWithMarksSaid sheet word marks zeros ones
+  fifteen-rows word marks zeros ones a (inl h) = absurd (omega (arith, h .0))
+  fifteen-rows word marks zeros ones a (inr (n₁, inl h)) = absurd (omega (arith, h .0))
+  fifteen-rows word marks zeros ones a (inr (n₁, inr (n₂, inl h))) = absurd (omega (arith, h .0))
+  fifteen-rows word marks zeros ones a (inr (n₁, inr (n₂, inr (n₃, inl h)))) = absurd (omega (arith, h .0))
+  fifteen-rows word marks zeros ones a (inr (n₁, inr (n₂, inr (n₃, inr (n₄, inl h))))) = absurd (omega (arith, h .0))
+  fifteen-rows word marks zeros ones a (inr (n₁, inr (n₂, inr (n₃, inr (n₄, inr (n₅, inl h)))))) = absurd (omega (arith, h .0))
+  fifteen-rows word marks zeros ones a (inr (n₁, inr (n₂, inr (n₃, inr (n₄, inr (n₅, inr (n₆, inl h))))))) = record {
+    accepted = a;
+    word-long = same n₁;
+    marks-long = same n₂;
+    zeros-long = same n₃;
+    ones-long = same n₄;
+    no-spare = n₅;
+    no-spare-mark = n₆;
+    none = h .1;
+  }
+  fifteen-rows word marks zeros ones a (inr (n₁, inr (n₂, inr (n₃, inr (n₄, inr (n₅, inr (n₆, inr h))))))) = absurd (h .1)
+
+  pub fifteen-iff : (word marks zeros ones : List ℕ) → (decodeMarkedOf sheet word marks zeros ones .0 .number ≡ 15)
+      ↔ NoneWithMarksSaid sheet word marks zeros ones
+  unfolding markedEntry
+  fifteen-iff word marks zeros ones =
+      let l : Conditions = markedConditions x word marks zeros ones in
+      let t : Turns = markedOwn x word marks zeros ones in
+      let e : decodeMarkedOf sheet word marks zeros ones .0 .number ≡ firstOf (refusalsOf sheet ++ l) = settle-number _ _ _ _ in
+      let w = own-first l 15 (omega arith) in (
+        λ q. (let z = w .0 (sym e ∙ q) in
+            fifteen-rows word marks zeros ones (is-accepted (z .0))
+            (said-first lastRefusal l t (marked-own sheet word marks zeros ones (usable (z .0))) 15 (omega arith) .0 (z .1))),
+        λ s. (let z : firstOf (refusalsOf sheet) ≡ 0 = accepted-is (s .accepted) in
+            e ∙ w .1 (
+              z,
+              said-first lastRefusal l t (marked-own sheet word marks zeros ones (usable z)) 15 (omega arith) .1
+                  (inr (
+                    λ n. n (s .word-long),
+                    inr (
+                      λ n. n (s .marks-long),
+                      inr (
+                        λ n. n (s .zeros-long),
+                        inr (
+                          λ n. n (s .ones-long),
+                          inr (s .no-spare, inr (s .no-spare-mark, inl (refl, s .none))),
+                        ),
+                      ),
+                    ),
+                  )),
             )),
       )

@@ -3,8 +3,8 @@
 --   length-of                a length that draws neither 2 nor 3
 --   head-said, sheet-said      the conditions 1 to 6, and 1 to 10
 --   accepted-of              where none of 1 to 10 holds, the sheet is accepted
---   codeword-said, near-said      a codeword as it is tested; no codeword near as it is searched for
---   judge-answered, encode-answered, read-answered, decode-answered, card-answered      what each entry answers
+--   codeword-said, near-said, marks-said      a codeword as it is tested; no codeword near, or with marks, as it is searched for
+--   judge-answered, encode-answered, read-answered, decode-answered, marked-answered, card-answered      what each entry answers
 use mathlib.Core.Path.{_≡_, refl}
 use mathlib.Core.Logic.{_≢_, inl, inr, Iff·trans, Iff·not}
 use mathlib.Core.Bool.{not}
@@ -25,15 +25,17 @@ use Rattle.document.specs.Generator.{isCodeword}
 use Rattle.document.specs.Judge.{wrongDegree, noMessage, sheetConditions, judgeConditions, dimensionOf, recordOf, judgeEntry}
 use Rattle.document.specs.Entry.{CodewordOf, generatorOf, wordOf, nearestMessage, encodeConditions, encodeEntry, readConditions, readEntry}
 use Rattle.document.specs.Entry.{decodeConditions, decodeEntry}
+use Rattle.document.specs.Marked.{markedMessage, markedConditions, markedEntry}
 use Rattle.document.specs.Card.{cardConditions, cardEntry}
-use Rattle.document.specs.Short.{short, stated, refusalsOf, judgeOf, encodeOf, readOf, decodeOf, cardOf}
+use Rattle.document.specs.Short.{short, stated, refusalsOf, judgeOf, encodeOf, readOf, decodeOf, decodeMarkedOf, cardOf}
 use Rattle.document.proofs.Reflect.{Says, not-iff, eqb-iff, not-eq-iff}
 use Rattle.document.proofs.Meaning.{length-iff, code-length-iff, header-iff, representative-iff, degree-iff, no-message-iff, spare-iff}
 use Rattle.document.proofs.Theory.{Length}
 use Rattle.certificate.proofs.Sheets as Sheets
+use Rattle.certificate.proofs.Marks.{marked-none}
 use Rattle.code.specs.Turns.{NoneHolds}
 use Rattle.code.specs.Table.{WrongCodeLength, WrongDegree, NoMessage, WrongBufferLength, SpareBit, NoneNear, headTurns, sheetTurns, encodeOwn, encodeTurns}
-use Rattle.code.specs.Table.{readOwn, readTurns, decodeOwn, decodeTurns, cardTurns, lastRefusal, Answered}
+use Rattle.code.specs.Table.{NoneWithMarks, readOwn, readTurns, decodeOwn, decodeTurns, markedOwn, markedTurns, cardTurns, lastRefusal, Answered}
 use Rattle.code.proofs.InTurn.{Said, said-none, said-append, answered, judged-answered}
 use Rattle.code.proofs.Rules.{certificates-said}
 
@@ -110,7 +112,7 @@ module _ (sheet : List ℕ) where
   usable : NoneHolds (sheetTurns sheet) → Sheets.Accepted x
   usable none = Sheets.accepted short (omega arith) sheet (accepted-of none)
 
-  -- ---- 11 to 14
+  -- ---- 11 to 15
   size-said : (places : ℕ) (buffer : List ℕ) → Says (not (eqb (length buffer) (bytesFor places))) (WrongBufferLength places buffer)
   unfolding bytesFor
   size-said places buffer = not-eq-iff (length buffer) ((places + 7) / 8)
@@ -127,6 +129,11 @@ module _ (sheet : List ℕ) where
   pub near-said : Sheets.Accepted x → (word : List ℕ) → Says (eqb (nearestMessage x word) (2 ^ dimensionOf x)) (NoneNear x word)
   near-said a word =
       Iff·trans (eqb-iff (nearestMessage x word) (2 ^ dimensionOf x)) (Sheets.sheet-none a word)
+
+  pub marks-said : Sheets.Accepted x → (word marks : List ℕ)
+      → Says (eqb (markedMessage x word marks) (2 ^ dimensionOf x)) (NoneWithMarks x word marks)
+  marks-said a word marks =
+      Iff·trans (eqb-iff (markedMessage x word marks) (2 ^ dimensionOf x)) (marked-none a word marks)
 
   -- ---- the entries
   module _ (input out : List ℕ) where
@@ -215,7 +222,55 @@ module _ (sheet : List ℕ) where
         answered (refusalsOf sheet ++ decodeConditions x input out) (decodeTurns sheet input out)
         (said-append lastRefusal (refusalsOf sheet) (sheetTurns sheet) _ _ sheet-said (λ none. decode-own (usable none))) _ _ out
 
-  pub judge-answered : Answered (sheetTurns sheet) (judgeOf sheet, []) []
+  -- ---- decoding with marks
+  module _ (word marks zeros ones : List ℕ) where
+    pub marked-own : Sheets.Accepted x → Said lastRefusal (markedConditions x word marks zeros ones) (markedOwn x word marks zeros ones)
+    unfolding markedConditions
+    marked-own a = (
+      omega arith,
+      omega arith,
+      refl,
+      size-said (x .n) word,
+      λ n₁. (
+        omega arith,
+        omega arith,
+        refl,
+        size-said (x .n) marks,
+        λ n₂. (
+          omega arith,
+          omega arith,
+          refl,
+          size-said (x .n) zeros,
+          λ n₃. (
+            omega arith,
+            omega arith,
+            refl,
+            size-said (x .n) ones,
+            λ n₄. (
+              omega arith,
+              omega arith,
+              refl,
+              spare-said wordWeight (x .n) word,
+              λ n₅. (
+                omega arith,
+                omega arith,
+                refl,
+                spare-said wordWeight (x .n) marks,
+                λ n₆. (omega arith, omega arith, refl, marks-said a word marks, λ n₇. tt),
+              ),
+            ),
+          ),
+        ),
+      ),
+    )
+
+    pub marked-answered : Answered (markedTurns sheet word marks zeros ones) (decodeMarkedOf sheet word marks zeros ones) (zeros, ones)
+    unfolding markedEntry
+    marked-answered =
+        answered (refusalsOf sheet ++ markedConditions x word marks zeros ones) (markedTurns sheet word marks zeros ones)
+        (said-append lastRefusal (refusalsOf sheet) (sheetTurns sheet) _ _ sheet-said (λ none. marked-own (usable none))) _ _ (zeros, ones)
+
+  pub judge-answered : Answered {B = List ℕ} (sheetTurns sheet) (judgeOf sheet, []) []
   unfolding judgeEntry
   judge-answered = judged-answered (refusalsOf sheet) (sheetTurns sheet) sheet-said (recordOf x)
 

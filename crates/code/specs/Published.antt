@@ -1,4 +1,4 @@
--- What document 01 publishes, with document 02's layout of words, rule 3 and choice of a certificate, as statements: the words in which
+-- What document 01 publishes, with document 02's layout of words, rule 3, choice of a certificate and words with marked places, as statements: the words in which
 -- proofs/Demands.antt says the three demands and the requests. The conditions of a certificate have no search in them; s, k, the generator and the working certificate,
 -- which the definitions search for or compute, are named, and fields of the demands say what they are (degree, dimension, generator, working).
 --
@@ -10,11 +10,12 @@
 --   PolynomialOver, DividesOver    polynomials over the field, and their divisors
 --   Rule1 .. Rule4, Published      the rules of a certificate
 --   Rounded, Working, WorkingIs      d, and the working certificate with d, t and its number of terms
---   Systematic, WordDecoded            what encoding and decoding write
+--   MarkedCall                     a call of decoding with marks that draws none of 1 to 12
+--   Systematic, WordDecoded, WordShown      what encoding, decoding, and decoding with marks write
 --   kept m g k a j                 what is kept after the highest j of the k bits of a (2026-02)
 -- No contract of an entry cites this file.
 use mathlib.Core.Path.{_≡_}
-use mathlib.Core.Logic.{_≢_, _⊎_}
+use mathlib.Core.Logic.{_≢_, _↔_, _⊎_}
 use mathlib.Core.List.{List, [], _∷_}
 use Prim.Native.Nat.{ℕ, zero, suc, _+_, _-_, _*_, _/_, _%_, _^_, _≤_, _<_, _∣_}
 use lib.ListN.{length, getD}
@@ -29,7 +30,8 @@ use Rattle.document.specs.Apart.{productAt, atRoot}
 use Rattle.document.specs.Certificate.{distance, radius}
 use Rattle.document.specs.Judge.{dimensionOf}
 use Rattle.document.specs.Entry.{generatorOf, radiusOf, CodewordOf, wordOf, changed}
-use Rattle.document.specs.Short.{byteAt, judgeOf}
+use Rattle.document.specs.Marked.{unmarkedChanged, WithinMarks, shownOf}
+use Rattle.document.specs.Short.{byteAt, stated, judgeOf}
 
 -- ---- the words
 -- "A sheet that draws none of 1 to 10 is accepted."
@@ -201,3 +203,29 @@ pub record WordDecoded (x : Stated) (word : List ℕ) (reply : Answer × List �
   pub near : changed x word (wordOf x (reply .1)) ≤ radiusOf x
   pub counted : reply .0 .values ≡ changed x word (wordOf x (reply .1)) ∷ []
   pub others : (c : ℕ) → CodewordOf x c → c ≢ wordOf x (reply .1) → radiusOf x < changed x word c
+
+-- a call of decoding with marks that draws none of 1 to 12
+pub record MarkedCall (sheet word marks zeros ones : List ℕ) : Type 0 where
+  pub accepted : IsAccepted sheet
+  pub is-word : Word (stated sheet) word
+  pub is-marks : Word (stated sheet) marks
+  pub zeros-long : length zeros ≡ (stated sheet .n + 7) / 8
+  pub ones-long : length ones ≡ (stated sheet .n + 7) / 8
+
+-- both buffers after decoding with marks, and what is told (2026-05): the second call, handed the trial, gives a codeword with 2·e + r at most
+-- d - 1, and no other codeword has it
+pub record WordShown (x : Stated) (word marks : List ℕ) (reply : Answer × (List ℕ × List ℕ)) : Type 0 where
+  pub e : ℕ
+  pub trial : ℕ
+  pub told : reply .0 .values ≡ e ∷ trial ∷ []
+  pub shown : List ℕ
+  pub shown-is : shown ≡ shownOf trial (x .n) (reply .1 .0) (reply .1 .1)
+  pub is-word : Word x shown
+  pub is-bytes : Bytes shown
+  pub is-codeword : CodewordOf x (wordOf x shown)
+  pub within : WithinMarks x word marks (wordOf x shown)
+  pub counted : e ≡ unmarkedChanged x word marks (wordOf x shown)
+  -- "0 the zeros, 1 the ones"; "if both hold the answer, the one of the zeros is handed back"
+  pub zeros-first : (trial ≡ 0) ↔ (wordOf x (reply .1 .0) ≡ wordOf x shown)
+  pub else-ones : trial ≢ 0 → trial ≡ 1
+  pub others : (c : ℕ) → CodewordOf x c → c ≢ wordOf x shown → ¬ WithinMarks x word marks c

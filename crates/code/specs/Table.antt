@@ -1,11 +1,12 @@
--- "Refused, by number": document 01's table as statements, and the order in which each entry tries them.
+-- "Refused, by number": document 01's table, with document 02's refusals, as statements, and the order in which each entry tries them.
 --
 --   WrongSheetLength .. NoMessage      the conditions 1 to 6 of a sheet
---   WrongBufferLength, SpareBit, NoneNear      11, 12 and 13; NoneNearSaid, NoCodewordSaid: what 13 and 14 say
+--   WrongBufferLength, SpareBit, NoneNear, NoneWithMarks      11, 12, 13 and 15
+--   NoneNearSaid, NoCodewordSaid, NoneWithMarksSaid      what 13, 14 and 15 say
 --   certificateTurns               7 to 10, of one certificate
 --   sheetTurns sheet               1 to 10
---   encodeTurns, readTurns, decodeTurns, cardTurns      all that an entry tries
---   lastRefusal; Answered turns reply before      what an entry answers by them, and what it leaves in the lent buffer
+--   encodeTurns, readTurns, decodeTurns, markedTurns, cardTurns      all that an entry tries
+--   lastRefusal; Answered turns reply before      what an entry answers by them, and what it leaves in the lent buffers
 -- No contract of an entry cites this file.
 use mathlib.Core.Path.{_≡_}
 use mathlib.Core.Logic.{_≢_, _↔_, _⊎_}
@@ -17,6 +18,7 @@ use Rattle.document.specs.Layout.{wordWeight, messageWeight, place}
 use Rattle.document.specs.Sheet.{Certificate, Stated}
 use Rattle.document.specs.Judge.{dimensionOf}
 use Rattle.document.specs.Entry.{CodewordOf, radiusOf, wordOf, changed}
+use Rattle.document.specs.Marked.{WithinMarks}
 use Rattle.document.specs.Short.{byteAt, stated}
 use Rattle.code.specs.Turns.{Turns, FirstThatHolds, NoneHolds}
 use Rattle.code.specs.Published.{IsAccepted, InDefiningSet, Rule1, Rule2, Rule3, Rule4}
@@ -72,6 +74,10 @@ SpareBit weight n bytes = (i : ℕ) × (n ≤ i) × (i < (n + 7) / 8 * 8) × (pl
 abbrev pub NoneNear : Stated → List ℕ → Type 0
 NoneNear x word = (c : ℕ) → CodewordOf x c → radiusOf x < changed x word c
 
+-- 15 (2026-05): "no such codeword exists", one "that differs from the received word in e unmarked places with 2·e + r at most d - 1"
+abbrev pub NoneWithMarks : Stated → List ℕ → List ℕ → Type 0
+NoneWithMarks x word marks = (c : ℕ) → CodewordOf x c → ¬ WithinMarks x word marks c
+
 -- "The sheet's conditions are tried in the order 1 to 6, then for each certificate in turn 7 to 10. Then come 11 (input, then output), 12,
 -- and last 13 or 14."
 abbrev pub headTurns : List ℕ → Turns
@@ -119,6 +125,19 @@ decodeOwn x word out =
     ∷ (13, NoneNear x word)
     ∷ []
 
+-- 2026-05: "Under 11 come the received word, the marks and the trial buffers; under 12 the received word and the marks; refusal 15, last
+-- and in 13's place"
+abbrev pub markedOwn : Stated → List ℕ → List ℕ → List ℕ → List ℕ → Turns
+markedOwn x word marks zeros ones =
+    (11, WrongBufferLength (x .n) word)
+    ∷ (11, WrongBufferLength (x .n) marks)
+    ∷ (11, WrongBufferLength (x .n) zeros)
+    ∷ (11, WrongBufferLength (x .n) ones)
+    ∷ (12, SpareBit wordWeight (x .n) word)
+    ∷ (12, SpareBit wordWeight (x .n) marks)
+    ∷ (15, NoneWithMarks x word marks)
+    ∷ []
+
 abbrev pub encodeTurns : List ℕ → List ℕ → List ℕ → Turns
 encodeTurns sheet message out = sheetTurns sheet ++ encodeOwn (stated sheet) message out
 
@@ -128,7 +147,10 @@ readTurns sheet word out = sheetTurns sheet ++ readOwn (stated sheet) word out
 abbrev pub decodeTurns : List ℕ → List ℕ → List ℕ → Turns
 decodeTurns sheet word out = sheetTurns sheet ++ decodeOwn (stated sheet) word out
 
--- what 13 says, and 14, whatever was handed over
+abbrev pub markedTurns : List ℕ → List ℕ → List ℕ → List ℕ → List ℕ → Turns
+markedTurns sheet word marks zeros ones = sheetTurns sheet ++ markedOwn (stated sheet) word marks zeros ones
+
+-- what 13 says, 14 and 15, whatever was handed over
 pub record NoneNearSaid (sheet word out : List ℕ) : Type 0 where
   pub accepted : IsAccepted sheet
   pub word-long : length word ≡ (stated sheet .n + 7) / 8
@@ -143,21 +165,32 @@ pub record NoCodewordSaid (sheet word out : List ℕ) : Type 0 where
   pub no-spare : ¬ SpareBit wordWeight (stated sheet .n) word
   pub none : ¬ CodewordOf (stated sheet) (wordOf (stated sheet) word)
 
+pub record NoneWithMarksSaid (sheet word marks zeros ones : List ℕ) : Type 0 where
+  pub accepted : IsAccepted sheet
+  pub word-long : length word ≡ (stated sheet .n + 7) / 8
+  pub marks-long : length marks ≡ (stated sheet .n + 7) / 8
+  pub zeros-long : length zeros ≡ (stated sheet .n + 7) / 8
+  pub ones-long : length ones ≡ (stated sheet .n + 7) / 8
+  pub no-spare : ¬ SpareBit wordWeight (stated sheet .n) word
+  pub no-spare-mark : ¬ SpareBit wordWeight (stated sheet .n) marks
+  pub none : NoneWithMarks (stated sheet) word marks
+
 -- card's buffer has 1,024 bytes; a refused sheet has a listing too
 abbrev pub cardTurns : List ℕ → Turns
 cardTurns out = (11, length out ≢ 1024) ∷ []
 
--- the last number of the table
+-- the last number: "Demand 1's fourteen refusals grow by those numbered in these requests."
 abbrev pub lastRefusal : ℕ
-lastRefusal = 14
+lastRefusal = 15
 
--- "A refusal returns its number alone and changes no lent byte. Each has one condition and is returned only then."
-pub record Answered (turns : Turns) (reply : Answer × List ℕ) (before : List ℕ) : Type 0 where
-  -- the number is 0, or 1 to 14
+-- "A refusal returns its number alone and changes no lent byte. Each has one condition and is returned only then." B: the bytes of one
+-- lent buffer, or of two
+pub record Answered {B : Type 0} (turns : Turns) (reply : Answer × B) (before : B) : Type 0 where
+  -- the number is 0, or 1 to 15
   pub range : reply .0 .number ≤ lastRefusal
   -- 0 exactly when no condition holds
   pub done : (reply .0 .number ≡ 0) ↔ NoneHolds turns
   -- r exactly when condition r holds and no earlier one does
   pub refused : (r : ℕ) → 0 < r → (reply .0 .number ≡ r) ↔ FirstThatHolds turns r
-  -- and then there are no values, and the lent buffer is as it was
+  -- and then there are no values, and the lent buffers are as they were
   pub alone : 0 < reply .0 .number → (reply .0 .values ≡ []) × (reply .1 ≡ before)

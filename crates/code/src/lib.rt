@@ -1,6 +1,6 @@
-// The entries, each for any input: judge, encode, read, decode and card; and the numbers of refusals.
+// The entries, each for any input: judge, encode, read, decode, decode_marked with shown, and card; and the numbers of refusals.
 
-// document 01's numbers of refusals
+// the documents' numbers of refusals
 pub mod refusal;
 
 // every entry's first step
@@ -17,6 +17,9 @@ pub mod read;
 
 // a received word to the codeword near it
 pub mod decode;
+
+// a received word with marked places to the codeword that fits it
+pub mod marked;
 
 // a sheet to its listing
 pub mod card;

@@ -3,7 +3,7 @@ ghost use mathlib.Core.Path.{_≡_};
 ghost use Rattle.document.specs.Answer.{numberOf};
 use document::types::Refusal;
 
-// The number of a refusal in document 01's table.
+// The number of a refusal: document 01's table, and document 02's.
 pub fn refusal_number(r: Refusal) -> usize
     ensures { λ x. ⌜ x ≡ numberOf r ⌝ }
 {
@@ -22,5 +22,6 @@ pub fn refusal_number(r: Refusal) -> usize
         Refusal::SpareBit => 12,
         Refusal::NoneNear => 13,
         Refusal::NoCodeword => 14,
+        Refusal::NoneWithMarks => 15,
     }
 }

@@ -5,7 +5,6 @@
 --   degree-of    s is a degree of the table
 --   cleared-tables      arrays for the tables of a degree up to m
 --   any-terms    where the long arrays are chosen, no more is asked of L
---   again        an answer made anew says what it said
 use mathlib.Core.Path.{_≡_, refl, sym, subst}
 use mathlib.Core.Logic.{_⊎_, inl, inr}
 use mathlib.Core.Bool.{true, false}
@@ -21,8 +20,7 @@ use Rattle.field.specs.Tables as Tables
 use Rattle.document.proofs.Theory.{degree}
 use Rattle.sheet.specs.declared.types.Certificate.{Certificate as CodeCertificate}
 use Rattle.poly.specs.Slice.{Short}
-use Rattle.decoder.specs.declared.types.Correction.{Correction}
-use Rattle.decoder.specs.Correct.{Given, Workspace, Held, Correctable, correctedAs, Corrected}
+use Rattle.decoder.specs.Correct.{Given, Workspace, Held, Correctable}
 
 abbrev pub zeros : ℕ → List ℕ
 zeros m = replicate m 0
@@ -73,7 +71,3 @@ cleared-tables {s} m d h =
 
 pub any-terms : {L : ℕ} → true ≡ false → L < 64
 any-terms e = absurd (true-ne-false refl e)
-
-pub again : {n t : ℕ} {reps w list : List ℕ} {x y : Correction} → Corrected n t reps w list (correctedAs x) → x ≡ y
-    → Corrected n t reps w list (correctedAs y)
-again {n} {t} {reps} {w} {list} h e = subst (λ z. Corrected n t reps w list (correctedAs z)) e h

@@ -5,13 +5,17 @@
 --   decode-far        no codeword within t places
 --   repairable        the listed places are of the word
 --   decode-done       the codeword, with the number of changed places
-use mathlib.Core.Path.{_≡_, sym, ap, ap₂, _∙_, subst}
+--   verdict-far, verdict-count      a verdict as an answer
+--   decoded-far, decoded-near      a word decoded, by its verdict
+--   received-held, received-far, received-repairable, received-done      the same of one word of several, with its verdict
+use mathlib.Core.Path.{_≡_, refl, sym, ap, ap₂, _∙_, subst}
 use mathlib.Core.Logic.{_≢_}
 use mathlib.Core.Bool.{true, false}
 use mathlib.Core.List.{List, [], _∷_}
 use Prim.Native.Nat.{ℕ, _-_, _≤_, _<_}
 use native.Mathlib.Decide.{decLt}
 use native.Mathlib.Omega.{arith}
+use borrow.Author.Tests.{ne-eqb}
 use lib.ListN.{length, getD}
 use Rattle.field.specs.Mask.{_⊕_, coefficient}
 use Rattle.document.specs.Answer.{Answer, returned, refused}
@@ -29,7 +33,7 @@ use Rattle.codeword.specs.Place.{placesOf}
 use Rattle.codeword.proofs.Places.{word-weights, mask-lt, mask-coefficient, mask-above, spare-none, bytes-same, for-le, places-length, places-hold}
 use Rattle.decoder.specs.Repair.{PlacesOf, Repairable, Repaired}
 use Rattle.decoder.specs.Correct.{Held, Corrected}
-use Rattle.decoder.specs.Decode.{States, Decoded}
+use Rattle.decoder.specs.Decode.{States, Decoded, Receivable, verdictAs}
 
 module _ {n : ℕ} (word : List ℕ) (a : length word ≡ bytesFor n) (d : spare wordWeight n word ≡ false) where
   pub held : Held n (placesOf word)
@@ -157,3 +161,41 @@ module _ {n t : ℕ} {reps : List ℕ} (word out : List ℕ) where
             → Repaired word list m out′ → length out′ ≡ length out → ((i : ℕ) → getD out′ i 0 < 256)
             → Decoded n t reps word out out′ (returned (m ∷ []))
         decode-done y e p long bytes = record { is = λ x u. done u word out a b d y e p long bytes }
+
+-- ---- one word of several
+pub verdict-far : {v : ℕ} → v ≡ 65535 → refused 13 ≡ verdictAs v
+unfolding verdictAs
+verdict-far e = sym (ap verdictAs e)
+
+pub verdict-count : {v : ℕ} → v ≢ 65535 → returned (v ∷ []) ≡ verdictAs v
+unfolding verdictAs
+verdict-count {v} e = sym (ap (λ b. elim b as (λ _. Answer) [ true ↦ refused 13 | false ↦ returned (v ∷ []) ]) (ne-eqb v 65535 e))
+
+module _ {n : ℕ} {word out : List ℕ} (r : Receivable n word out) where
+  pub received-held : Held n (placesOf word)
+  received-held = held word (r .word-long) (r .clear)
+
+  module _ {t : ℕ} {reps list : List ℕ} {answer : Answer} (y : Corrected n t reps (placesOf word) list answer) where
+    pub received-far : answer ≡ refused 13 → Decoded n t reps word out out (verdictAs 65535)
+    received-far e =
+        subst (λ a. Decoded n t reps word out out a) (verdict-far {v = 65535} refl)
+        (decode-far word out (r .word-long) (r .out-long) (r .clear) y e)
+
+    pub received-repairable : {m : ℕ} → answer ≡ returned (m ∷ []) → n ≤ length list → Repairable word list m out
+    received-repairable e l = repairable word (r .word-long) (r .clear) y e (r .out-long) l
+
+    pub received-done : n ≤ 127 → {m : ℕ} {out′ : List ℕ} → answer ≡ returned (m ∷ []) → Repaired word list m out′ → length out′ ≡ length out
+        → ((i : ℕ) → getD out′ i 0 < 256) → Decoded n t reps word out out′ (verdictAs m)
+    received-done few {m} {out′} e p long bytes =
+        let f = y .found (places-hold n word (r .word-long) (r .clear)) (mask-lt wordWeight n word) e .5 in
+        let s : m ≢ 65535 = λ q. omega (arith, f .le) in
+        subst (λ a. Decoded n t reps word out out′ a) (verdict-count s)
+        (decode-done word out (r .word-long) (r .out-long) (r .clear) y e p long bytes)
+
+-- ---- a word's verdict
+module _ {n t : ℕ} {reps word out out′ : List ℕ} {v : ℕ} (y : Decoded n t reps word out out′ (verdictAs v)) where
+  pub decoded-far : v ≡ 65535 → Decoded n t reps word out out′ (refused 13)
+  decoded-far e = subst (λ z. Decoded n t reps word out out′ z) (sym (verdict-far e)) y
+
+  pub decoded-near : v ≢ 65535 → Decoded n t reps word out out′ (returned (v ∷ []))
+  decoded-near e = subst (λ z. Decoded n t reps word out out′ z) (sym (verdict-count e)) y

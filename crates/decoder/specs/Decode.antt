@@ -2,10 +2,19 @@
 --
 --   States x n t reps        x is what an accepted sheet states, of length n and with these representatives; t is its radius
 --   Decoded n t reps word out out′ answer      answer and bytes of the entry on such a sheet, which has no refusal of its own
+--   Receivable n word out    a word of n places without spare bits, and bytes for the result
+--   verdictAs v              a verdict as an answer: the number of changed places, or 65,535 for 13
+--   part at size l           so many of a list from a place on
+--   Lined n size count words out      so many such words one after the other, and bytes for the results
+--   DecodedEach n t reps size words out out′ verdicts      each of them decoded into its own bytes
 use mathlib.Core.Path.{_≡_}
-use mathlib.Core.List.{List, []}
-use Prim.Native.Nat.{ℕ}
-use Rattle.document.specs.Answer.{Answer}
+use mathlib.Core.Bool.{true, false}
+use mathlib.Core.List.{List, [], _∷_}
+use Prim.Native.Nat.{ℕ, _*_, _<_}
+use lib.Dec.{eqb}
+use lib.ListN.{length, getD, take, drop}
+use Rattle.document.specs.Answer.{Answer, returned, refused}
+use Rattle.document.specs.Layout.{wordWeight, bytesFor, spare}
 use Rattle.document.specs.Sheet.{Stated}
 use Rattle.document.specs.Entry.{radiusOf, decodeEntry}
 use Rattle.certificate.proofs.Sheets.{Accepted}
@@ -18,3 +27,25 @@ pub record States (x : Stated) (n t : ℕ) (reps : List ℕ) : Type 0 where
 
 pub record Decoded (n t : ℕ) (reps word out out′ : List ℕ) (answer : Answer) : Type 0 where
   pub is : (x : Stated) → States x n t reps → (answer, out′) ≡ decodeEntry [] x word out
+
+-- ---- several words
+pub record Receivable (n : ℕ) (word out : List ℕ) : Type 0 where
+  pub word-long : length word ≡ bytesFor n
+  pub out-long : length out ≡ bytesFor n
+  pub clear : spare wordWeight n word ≡ false
+
+unfoldable pub verdictAs : ℕ → Answer
+verdictAs v = elim (eqb v 65535) [ true ↦ refused 13 | false ↦ returned (v ∷ []) ]
+
+abbrev pub part : ℕ → ℕ → List ℕ → List ℕ
+part at size l = take size (drop at l)
+
+pub record Lined (n size count : ℕ) (words out : List ℕ) : Type 0 where
+  pub size-is : size ≡ bytesFor n
+  pub words-long : length words ≡ count * size
+  pub out-long : length out ≡ count * size
+  pub clear : (k : ℕ) → k < count → spare wordWeight n (part (k * size) size words) ≡ false
+
+pub record DecodedEach (n t : ℕ) (reps : List ℕ) (size : ℕ) (words out out′ verdicts : List ℕ) : Type 0 where
+  pub each : (k : ℕ) → k < length verdicts
+      → Decoded n t reps (part (k * size) size words) (part (k * size) size out) (part (k * size) size out′) (verdictAs (getD verdicts k 0))

@@ -1,3 +1,4 @@
 pub mod Correct
 pub mod Repair
 pub mod Decode
+pub mod Marked

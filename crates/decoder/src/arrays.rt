@@ -1,22 +1,20 @@
-// The arrays that correcting a word works in, by the code's size: tables for s up to 6, 8 or 12, and polynomials of 64 or of 1,024
-// coefficients. Clearing large arrays costs more than correcting a short code's word.
+// The arrays that correcting a word works in, by the certificate's terms: polynomials of 64 or of 1,024 coefficients; and words decoded one
+// after the other in such arrays, with tables that are lent. Clearing large arrays costs more than correcting a short code's word.
 //
-// Each function that owns arrays keeps a frame of its own, so that a code takes stack for its own size alone. For that it is called
-// at two places, since the compiler joins a function with its only caller; and an answer is taken apart and made anew,
-// since the compiler joins a small function without a branch with all its callers. tools/stack fails if a large one is joined.
-ghost use mathlib.Core.Path.{_≡_};
-ghost use mathlib.Core.Bool.{false};
+// The arrays of each size are a frame of their own, so that a code takes stack for its own size alone: the compiler joins a function
+// with its only caller, so the function that owns them and the one that goes through the words are one frame, and the latter is called at
+// three places. tools/stack fails if a large frame is joined with another.
 ghost use Prim.Native.Nat.{_<_, _≤_};
 ghost use lib.ListN.{length};
 ghost use Rattle.field.specs.Tables.{Tables};
-ghost use Rattle.codeword.specs.Place.{placesOf};
-ghost use Rattle.decoder.specs.Correct.{Given, Held, correctedAs, Corrected};
+ghost use Rattle.decoder.specs.Correct.{Given};
+ghost use Rattle.decoder.specs.Decode.{Receivable, Lined, verdictAs, Decoded, DecodedEach};
 use crate::correct::correct;
+use crate::repair::repair;
 use crate::types::Correction;
-use field::tables::fill;
 use sheet::types::Certificate;
 
-// Up to 63 terms.
+// One word, up to 63 terms: the corrected word into out, and the number of changed places; or 65,535 where no codeword is near.
 fn with_short_arrays(
     n: usize,
     s: usize,
@@ -25,12 +23,13 @@ fn with_short_arrays(
     representatives: &[u16],
     powers: &[u16],
     logs: &[u16],
-    places: &mut [u16],
     word: &[u8],
-) -> Correction
-    requires { ⌜ Given n s t c (now representatives) × Held n (placesOf (now word)) × (n ≤ length (now places)) × Tables s (now powers) (now logs) × (c .terms < 64) × (n ≤ 127) ⌝ }
-    ensures { λ r. ⌜ Corrected n t (now (representatives .entry)) (placesOf (now (word .entry))) (now (places .exit)) (correctedAs r) ⌝ }
+    out: &mut [u8],
+) -> usize
+    requires { ⌜ Given n s t c (now representatives) × Tables s (now powers) (now logs) × Receivable n (now word) (now out) × (c .terms < 64) × (n ≤ 127) ⌝ }
+    ensures { λ r. ⌜ Decoded n t (now (representatives .entry)) (now (word .entry)) (now (out .entry)) (now (out .exit)) (verdictAs r) ⌝ }
 {
+    let mut places = [0u16; 128];
     let mut columns = [0u64; 32];
     let mut values = [0u16; 128];
     let mut upper = [0u16; 64];
@@ -59,15 +58,16 @@ fn with_short_arrays(
         &mut steps,
         &mut low,
         &mut high,
-        places,
+        &mut places,
         word,
     ) else {
-        return Correction::None;
+        return 65535;
     };
-    Correction::Places(m)
+    repair(word, &places, m, out);
+    m
 }
 
-// Up to 1,023 terms.
+// The same, up to 1,023 terms.
 fn with_long_arrays(
     n: usize,
     s: usize,
@@ -76,12 +76,13 @@ fn with_long_arrays(
     representatives: &[u16],
     powers: &[u16],
     logs: &[u16],
-    places: &mut [u16],
     word: &[u8],
-) -> Correction
-    requires { ⌜ Given n s t c (now representatives) × Held n (placesOf (now word)) × (n ≤ length (now places)) × Tables s (now powers) (now logs) × (c .terms < 1024) × (n ≤ 127) ⌝ }
-    ensures { λ r. ⌜ Corrected n t (now (representatives .entry)) (placesOf (now (word .entry))) (now (places .exit)) (correctedAs r) ⌝ }
+    out: &mut [u8],
+) -> usize
+    requires { ⌜ Given n s t c (now representatives) × Tables s (now powers) (now logs) × Receivable n (now word) (now out) × (c .terms < 1024) × (n ≤ 127) ⌝ }
+    ensures { λ r. ⌜ Decoded n t (now (representatives .entry)) (now (word .entry)) (now (out .entry)) (now (out .exit)) (verdictAs r) ⌝ }
 {
+    let mut places = [0u16; 128];
     let mut columns = [0u64; 32];
     let mut values = [0u16; 128];
     let mut upper = [0u16; 1024];
@@ -110,110 +111,83 @@ fn with_long_arrays(
         &mut steps,
         &mut low,
         &mut high,
-        places,
+        &mut places,
         word,
     ) else {
-        return Correction::None;
+        return 65535;
     };
-    Correction::Places(m)
+    repair(word, &places, m, out);
+    m
 }
 
-// s up to 6.
-fn with_smallest_tables(
+// Words one after the other, up to 63 terms: each decoded into its own bytes of out.
+pub fn each_with_short_arrays(
     n: usize,
     s: usize,
     t: usize,
     c: Certificate,
     representatives: &[u16],
-    places: &mut [u16],
-    word: &[u8],
-    long: bool,
-) -> Correction
-    requires { ⌜ Given n s t c (now representatives) × Held n (placesOf (now word)) × (n ≤ length (now places)) × (long ≡ false → c .terms < 64) × (s ≤ 6) × (c .terms < 1024) × (n ≤ 127) ⌝ }
-    ensures { λ r. ⌜ Corrected n t (now (representatives .entry)) (placesOf (now (word .entry))) (now (places .exit)) (correctedAs r) ⌝ }
+    powers: &[u16],
+    logs: &[u16],
+    size: usize,
+    words: &[u8],
+    out: &mut [u8],
+    verdicts: &mut [usize],
+)
+    requires { ⌜ Given n s t c (now representatives) × Tables s (now powers) (now logs) × Lined n size (length (now verdicts)) (now words) (now out) × (c .terms < 64) × (n ≤ 127) ⌝ }
+    ensures { λ _. ⌜ DecodedEach n t (now (representatives .entry)) size (now (words .entry)) (now (out .entry)) (now (out .exit)) (now (verdicts .exit)) ⌝ }
 {
-    let mut powers = [0u16; 320];
-    let mut logs = [0u16; 64];
-    fill(s, &mut powers, &mut logs);
-    if long {
-        return with_long_arrays(n, s, t, c, representatives, &powers, &logs, places, word);
+    let mut k: usize = 0;
+    while k < verdicts.len() {
+        let start = k * size;
+        let end = start + size;
+        verdicts[k] = with_short_arrays(
+            n,
+            s,
+            t,
+            c,
+            representatives,
+            powers,
+            logs,
+            &words[start..end],
+            &mut out[start..end],
+        );
+        k = k + 1;
     }
-    with_short_arrays(n, s, t, c, representatives, &powers, &logs, places, word)
 }
 
-// s up to 8.
-fn with_small_tables(
+// The same, up to 1,023 terms.
+pub fn each_with_long_arrays(
     n: usize,
     s: usize,
     t: usize,
     c: Certificate,
     representatives: &[u16],
-    places: &mut [u16],
-    word: &[u8],
-    long: bool,
-) -> Correction
-    requires { ⌜ Given n s t c (now representatives) × Held n (placesOf (now word)) × (n ≤ length (now places)) × (long ≡ false → c .terms < 64) × (s ≤ 8) × (c .terms < 1024) × (n ≤ 127) ⌝ }
-    ensures { λ r. ⌜ Corrected n t (now (representatives .entry)) (placesOf (now (word .entry))) (now (places .exit)) (correctedAs r) ⌝ }
+    powers: &[u16],
+    logs: &[u16],
+    size: usize,
+    words: &[u8],
+    out: &mut [u8],
+    verdicts: &mut [usize],
+)
+    requires { ⌜ Given n s t c (now representatives) × Tables s (now powers) (now logs) × Lined n size (length (now verdicts)) (now words) (now out) × (c .terms < 1024) × (n ≤ 127) ⌝ }
+    ensures { λ _. ⌜ DecodedEach n t (now (representatives .entry)) size (now (words .entry)) (now (out .entry)) (now (out .exit)) (now (verdicts .exit)) ⌝ }
 {
-    let mut powers = [0u16; 1280];
-    let mut logs = [0u16; 256];
-    fill(s, &mut powers, &mut logs);
-    if long {
-        return with_long_arrays(n, s, t, c, representatives, &powers, &logs, places, word);
+    let mut k: usize = 0;
+    while k < verdicts.len() {
+        let start = k * size;
+        let end = start + size;
+        verdicts[k] = with_long_arrays(
+            n,
+            s,
+            t,
+            c,
+            representatives,
+            powers,
+            logs,
+            &words[start..end],
+            &mut out[start..end],
+        );
+        k = k + 1;
     }
-    with_short_arrays(n, s, t, c, representatives, &powers, &logs, places, word)
-}
-
-// s up to 12.
-fn with_large_tables(
-    n: usize,
-    s: usize,
-    t: usize,
-    c: Certificate,
-    representatives: &[u16],
-    places: &mut [u16],
-    word: &[u8],
-    long: bool,
-) -> Correction
-    requires { ⌜ Given n s t c (now representatives) × Held n (placesOf (now word)) × (n ≤ length (now places)) × (long ≡ false → c .terms < 64) × (c .terms < 1024) × (n ≤ 127) ⌝ }
-    ensures { λ r. ⌜ Corrected n t (now (representatives .entry)) (placesOf (now (word .entry))) (now (places .exit)) (correctedAs r) ⌝ }
-{
-    let mut powers = [0u16; 20480];
-    let mut logs = [0u16; 4096];
-    fill(s, &mut powers, &mut logs);
-    if long {
-        return with_long_arrays(n, s, t, c, representatives, &powers, &logs, places, word);
-    }
-    with_short_arrays(n, s, t, c, representatives, &powers, &logs, places, word)
-}
-
-// The places that turn a word into the codeword within t places of it, if there is one.
-pub fn correct_word(
-    n: usize,
-    s: usize,
-    t: usize,
-    c: Certificate,
-    representatives: &[u16],
-    places: &mut [u16],
-    word: &[u8],
-) -> Correction
-    requires { ⌜ Given n s t c (now representatives) × Held n (placesOf (now word)) × (n ≤ length (now places)) × (c .terms < 1024) × (n ≤ 127) ⌝ }
-    ensures { λ r. ⌜ Corrected n t (now (representatives .entry)) (placesOf (now (word .entry))) (now (places .exit)) (correctedAs r) ⌝ }
-{
-    if c.terms < 64 {
-        if s <= 6 {
-            return with_smallest_tables(n, s, t, c, representatives, places, word, false);
-        }
-        if s <= 8 {
-            return with_small_tables(n, s, t, c, representatives, places, word, false);
-        }
-        return with_large_tables(n, s, t, c, representatives, places, word, false);
-    }
-    if s <= 6 {
-        return with_smallest_tables(n, s, t, c, representatives, places, word, true);
-    }
-    if s <= 8 {
-        return with_small_tables(n, s, t, c, representatives, places, word, true);
-    }
-    with_large_tables(n, s, t, c, representatives, places, word, true)
 }

@@ -16,9 +16,7 @@ ghost use Prim.Native.Nat.{_<_, _≤_};
 ghost use Rattle.document.specs.Answer.{repliedAs};
 ghost use Rattle.decoder.specs.Correct.{Given};
 ghost use Rattle.decoder.specs.Decode.{Decoded};
-use crate::arrays::correct_word;
-use crate::repair::repair;
-use crate::types::Correction;
+use crate::tables::decode_word;
 use codeword::layout::bytes_for;
 use codeword::layout::spare_word;
 use document::types::Refusal;
@@ -47,10 +45,9 @@ pub fn decode_accepted(
     if spare_word(n, word) {
         return Reply::Refused(Refusal::SpareBit);
     }
-    let mut places = [0u16; 128];
-    let Correction::Places(m) = correct_word(n, s, t, c, representatives, &mut places, word) else {
+    let m = decode_word(n, s, t, c, representatives, word, out);
+    if m == 65535 {
         return Reply::Refused(Refusal::NoneNear);
-    };
-    repair(word, &places, m, out);
+    }
     Reply::Done(m)
 }

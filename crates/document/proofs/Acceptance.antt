@@ -18,7 +18,7 @@ use native.Mathlib.Decide.{ℕ-discrete}
 use native.Mathlib.Omega.{arith}
 use lib.ListN.{length}
 use Rattle.field.specs.Search.{upTo}
-use Rattle.document.specs.Answer.{Answer, returned, Conditions, firstOf, settle}
+use Rattle.document.specs.Answer.{Answer, returned, Conditions, firstOf, settleIn, settle}
 use Rattle.document.specs.Sheet.{Certificate, Stated, certificateAt, Kind, statedBy}
 use Rattle.document.specs.Certificate.{rule1, rule2, rule3, rule4}
 use Rattle.document.specs.Judge.{sheetConditions, certificateConditions, judgeConditions, recordOf, judgeEntry}
@@ -209,5 +209,5 @@ module _ (kind : Kind) (sheet : List ℕ) where
 
   -- d, t and the number of terms in it are those of the working certificate
   pub accepted-record : judgeBy kind sheet .number ≡ 0 → judgeBy kind sheet ≡ returned (recordOf x)
-  unfolding judgeEntry settle
+  unfolding judgeEntry settleIn
   accepted-record e = ap (λ (r : ℕ). settle r (recordOf x) [] [] .0) (sym (judge-number kind sheet) ∙ e)

@@ -1,6 +1,6 @@
 -- The twelve cases of document 01, "Known sheets and words", as one table that the definitions hold; the fourteen examples of
 -- its table of refusals as a second, 12 and 14 as 2026-01 has them; near misses, sheets of 2026-03 and 2026-04 among
--- them; and listings. They are said of the entries as they are defined; rule 3 is computed by what Tested.antt shows it to be.
+-- them; words with marked places (2026-05); and listings. They are said of the entries as they are defined; rule 3 is computed by what Tested.antt shows it to be.
 --
 --   sheetH, sheetE, sheetS, sheetB      the known sheets, in bytes
 --   facts, encodes, decodes             what the definitions say, as numbers
@@ -8,6 +8,7 @@
 --   refusals-hold                       the examples of "Refused, by number", 1 to 14, by their numbers
 --   near-hold                           near misses: each row with the misreadings that it catches
 --   before-hold                         rule 3 as it was refused the sheets of 2026-03
+--   marked-hold                         decoding with marks (2026-05)
 --   listings-hold                       the listing of sheet H and of four others, byte for byte
 -- Where document 01 abbreviates an example of a refusal, the sheet is H with what is said changed.
 use mathlib.Core.Path.{_≡_, refl, ap, _∙_}
@@ -20,7 +21,7 @@ use Rattle.field.specs.Mask.{_⊕_, size, productBelow, clmul, divideDown, rema
 use Rattle.field.specs.Field.{masks, mask, fieldMultiply, fieldPower, α, orderOfTwo}
 use Rattle.binary.specs.Factor.{coprime, degree, divides, common, period, terms}
 use Rattle.binary.specs.Independence.{valueModulo, independent}
-use Rattle.document.specs.Answer.{Answer, firstOf, settle}
+use Rattle.document.specs.Answer.{Answer, firstOf, settleIn}
 use Rattle.document.specs.Layout.{wordWeight, messageWeight, bytesFor, place, maskOf, byteOf, bytesOf, spare}
 use Rattle.document.specs.Sheet.{Certificate, certificateAt, statedBy, wrongLength, wrongCodeLength, wrongHeader}
 use Rattle.document.specs.Coset.{inCoset, smallest, inSet, definingSet, dimension}
@@ -31,6 +32,8 @@ use Rattle.document.specs.Judge.{wrongDegree, wrongRepresentative, noMes
 use Rattle.document.specs.Judge.{dimensionOf, workingOf, workingCertificate, recordOf, judgeEntry}
 use Rattle.document.specs.Entry.{generatorOf, radiusOf, encodeConditions, encodedWord, encodeEntry, readConditions, readEntry}
 use Rattle.document.specs.Entry.{nearestMessage, decodedWord, decodeConditions, decodeEntry}
+use Rattle.document.specs.Marked.{markedCount, unmarkedDifferences, trialPlace, trialMask, markedMessage, markedWord, trialWord, tried}
+use Rattle.document.specs.Marked.{trialShown, markedConditions, markedEntry}
 use Rattle.document.specs.Card.{decimalIn, decimal, codeLine, zerosLine, generatorLine, certificateLine, radiusLine}
 use Rattle.document.specs.Card.{refusedLine, acceptedLines, listingFor, listingOf, cardConditions, cardEntry}
 use Rattle.document.specs.Short.{short, stated}
@@ -40,13 +43,14 @@ use Rattle.document.proofs.Tested.{testedOf, Replies, repliesBy, docume
 -- all definitions, for the lemmas that compute
 definitions : ℕ
 unfolding leastFrom least upTo keep some every total _⊕_ size productBelow clmul divideDown remainder masks mask
-    fieldMultiply fieldPower α orderOfTwo firstOf settle wordWeight messageWeight bytesFor place maskOf byteOf bytesOf
+    fieldMultiply fieldPower α orderOfTwo firstOf settleIn wordWeight messageWeight bytesFor place maskOf byteOf bytesOf
     spare certificateAt statedBy inCoset smallest inSet definingSet dimension addPoly timesRoot rootProduct generatorPoly
     maskOfPoly generator isCodeword encodeMask messageOf differences nearest degree coprime divides common terms valueModulo
     independent steps ratio extent rule1 rule2 rule4 fourWith conditionsWith distance radius beats working wrongLength wrongCodeLength wrongDegree wrongHeader
     wrongRepresentative noMessage sheetConditions dimensionOf workingOf
     workingCertificate recordOf judgeEntry generatorOf radiusOf encodeConditions encodedWord encodeEntry readConditions
-    readEntry nearestMessage decodedWord decodeConditions decodeEntry flatMap
+    readEntry nearestMessage decodedWord decodeConditions decodeEntry flatMap markedCount unmarkedDifferences trialPlace trialMask
+    markedMessage markedWord trialWord tried trialShown markedConditions markedEntry
 definitions = 0
 
 -- a sheet of its numbers: n, representatives, certificates (b, z, f, h, L, all below 256)
@@ -139,6 +143,52 @@ cases-computed = refl
 
 cases-hold : said documented ≡ expected
 cases-hold = ap said replies-tested ∙ cases-computed
+
+-- ---- decoding with marks (2026-05), of words and marks as masks: the number, what is told, and both buffers, the zeros' of which holds AA
+-- before, as a mask 85, and the ones' 55, 42
+module _ (E : Replies) where
+  marks : List ℕ → ℕ → ℕ → List ℕ
+  marks sheet received marked =
+      let n : ℕ = stated sheet .n in
+      let r = E .decodeMarked sheet (bytesOf wordWeight n received) (bytesOf wordWeight n marked) (170 ∷ []) (85 ∷ []) in
+      r .0 .number ∷ r .0 .values ++ (maskOf wordWeight n (r .1 .0) ∷ maskOf wordWeight n (r .1 .1) ∷ [])
+
+  markedRows : List (List ℕ)
+  markedRows =
+      marks sheetH 10 1  -- both hold the answer
+      ∷ marks sheetH 1 10  -- the ones do, and the zeros another codeword
+      ∷ marks sheetH 11 7  -- r is d: both trial words are near a codeword, and none is the answer
+      ∷ marks sheetH 10 0  -- no mark, as case 4
+      ∷ marks (sheetE 3) 20 9  -- the ones do, and the zeros are near no codeword
+      ∷ marks (sheetE 3) 29 98  -- d - 1 marks: the zeros do, and the ones are near no codeword
+      ∷ marks (sheetE 3) 3 4  -- 2·e + r is d - 1
+      ∷ marks (sheetE 3) 93 3  -- 2·e + r is d
+      ∷ marks (sheetE 3) 3 0  -- no mark, as case 8
+      ∷ (E .decodeMarked sheetH (1 ∷ []) (1 ∷ []) (0 ∷ []) [] .0 .number ∷ [])  -- a buffer's length before spare bits
+      ∷ (E .decodeMarked sheetH (224 ∷ []) (1 ∷ []) (0 ∷ []) (0 ∷ []) .0 .number ∷ [])  -- a spare bit of the marks
+      ∷ []
+
+markedExpected : List (List ℕ)
+markedExpected =
+    (0 ∷ 0 ∷ 0 ∷ 11 ∷ 11 ∷ [])
+    ∷ (0 ∷ 0 ∷ 1 ∷ 0 ∷ 11 ∷ [])
+    ∷ (15 ∷ 85 ∷ 42 ∷ [])
+    ∷ (0 ∷ 1 ∷ 0 ∷ 11 ∷ 11 ∷ [])
+    ∷ (0 ∷ 0 ∷ 1 ∷ 20 ∷ 29 ∷ [])
+    ∷ (0 ∷ 0 ∷ 0 ∷ 29 ∷ 127 ∷ [])
+    ∷ (0 ∷ 1 ∷ 1 ∷ 3 ∷ 39 ∷ [])
+    ∷ (15 ∷ 85 ∷ 42 ∷ [])
+    ∷ (15 ∷ 85 ∷ 42 ∷ [])
+    ∷ (11 ∷ [])
+    ∷ (12 ∷ [])
+    ∷ []
+
+marked-computed : markedRows (repliesBy testedOf) ≡ markedExpected
+unfolding markedRows markedExpected marks sheetH sheetE oneCertificate sheetOf definitions
+marked-computed = refl
+
+marked-hold : markedRows documented ≡ markedExpected
+marked-hold = ap markedRows replies-tested ∙ marked-computed
 
 -- ---- the refusals
 module _ (E : Replies) where

@@ -10,8 +10,10 @@ pub mod Acceptance
 pub mod Settled
 pub mod GeneratorIs
 pub mod Encoding
+pub mod Searched
 pub mod Join
 pub mod Meaning
+pub mod Marking
 pub mod CardIs
 pub mod Polynomials
 pub mod ApartIs

@@ -4,7 +4,7 @@
 --   rule1-iff                  rule 1 of a certificate
 --   set-iff                    D, by all powers of 2
 --   representative-iff, degree-iff      conditions 5 and 3
---   differ-count               the places in which two words differ, counted
+--   differ-at, differ-count    whether two words differ in a place; the places in which they do, counted
 --   dimension-sum              k and the members of D, counted, make n
 --   no-message-iff             condition 6: every number below n is in D
 --   spare-iff                  condition 12: a spare bit is 1
@@ -161,14 +161,15 @@ module _ {n : ℕ} (o : OddLength n) where
   )
 
 -- ---- counts
+pub differ-at : (a b i : ℕ) → coefficient i (a ⊕ b) ≡ (coefficient i a + coefficient i b) % 2
+differ-at a b i =
+    let e : (a / 2 ^ i + b / 2 ^ i) % 2 ≡ (a / 2 ^ i % 2 + b / 2 ^ i % 2) % 2 = omega arith in
+    bit-⊕ i a b ∙ sum-two (a / 2 ^ i) (b / 2 ^ i) ∙ e
+
 pub differ-count : (n a b : ℕ) → differences n a b ≡ total n (λ i. (coefficient i a + coefficient i b) % 2)
 unfolding differences
-differ-count n a b = total-ext n (λ i. coefficient i (a ⊕ b)) (λ i. (coefficient i a + coefficient i b) % 2) (λ i h. at i)
-  where
-    at : (i : ℕ) → coefficient i (a ⊕ b) ≡ (coefficient i a + coefficient i b) % 2
-    at i =
-        let e : (a / 2 ^ i + b / 2 ^ i) % 2 ≡ (a / 2 ^ i % 2 + b / 2 ^ i % 2) % 2 = omega arith in
-        bit-⊕ i a b ∙ sum-two (a / 2 ^ i) (b / 2 ^ i) ∙ e
+differ-count n a b =
+    total-ext n (λ i. coefficient i (a ⊕ b)) (λ i. (coefficient i a + coefficient i b) % 2) (λ i h. differ-at a b i)
 
 -- how many pass a test
 module _ (test : ℕ → Bool) where

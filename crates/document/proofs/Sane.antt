@@ -22,7 +22,7 @@ use Rattle.field.specs.Field.{fieldMultiply, fieldPower, orderOfTwo, α}
 use Rattle.field.proofs.Search.{keep-none}
 use Rattle.field.proofs.Search.{length-upTo, length-keep}
 use Rattle.field.proofs.Xor.{⊕-zero-r, ⊕-zero-l}
-use Rattle.document.specs.Answer.{Conditions, firstOf, settle}
+use Rattle.document.specs.Answer.{Conditions, firstOf, settleIn}
 use Rattle.document.specs.Sheet.{Certificate, Stated, Kind, statedBy, wrongLength, wrongCodeLength, wrongHeader}
 use Rattle.document.specs.Coset.{inSet, definingSet, dimension}
 use Rattle.document.specs.Generator.{addPoly, timesRoot, rootProduct, generatorPoly, maskOfPoly, generator}
@@ -108,8 +108,8 @@ unfolding firstOf
 passed r true rest e = absurd (omega arith)
 passed r false rest e = (refl, e)
 
-pub settle-number : (r : ℕ) (v w o : List ℕ) → settle r v w o .0 .number ≡ r
-unfolding settle
+pub settle-number : {B : Type 0} (r : ℕ) (v : List ℕ) (w o : B) → settleIn r v w o .0 .number ≡ r
+unfolding settleIn
 settle-number zero v w o = refl
 settle-number (suc r) v w o = refl
 

@@ -7,7 +7,7 @@
 --   same-first           two tests that agree where rule 1 holds draw the same refusal
 --   but-nine-first       one that is true wherever another is draws what that draws, but where that is 9
 --   testedRule, testedOf      the conditions by `independent`; tested-first: they draw what the definition's do
---   Call, Replies, repliesBy, documented, replies-tested      so all entries answer the same: the tables of Cases.antt are computed by it
+--   Call, TrialCall, Replies, repliesBy, documented, replies-tested      so all entries answer the same: the tables of Cases.antt are computed by it
 use mathlib.Core.Path.{_≡_, refl, sym, ap, ap₂, _∙_, fun-ext}
 use mathlib.Core.Logic.{_≢_, _↔_}
 use mathlib.Core.Bool.{Bool, true, false, not}
@@ -25,7 +25,7 @@ use Rattle.binary.proofs.Meaning.{no-factor, period-divisor}
 use Rattle.binary.proofs.IndependentPowers.{denominator, independent-is}
 use Rattle.cyclic.proofs.Apart.{apart}
 use Rattle.cyclic.proofs.Independent.{apart-binary}
-use Rattle.document.specs.Answer.{Answer, Conditions, firstOf, settle}
+use Rattle.document.specs.Answer.{Answer, Conditions, firstOf, settleIn, settle}
 use Rattle.document.specs.Sheet.{Certificate, Stated, Kind, statedBy, wrongCodeLength}
 use Rattle.document.specs.Apart.{factorsApart}
 use Rattle.document.specs.Certificate.{rule1, rule3, rule4}
@@ -33,7 +33,8 @@ use Rattle.document.specs.Judge.{wrongDegree, sheetConditions, certifica
 use Rattle.document.specs.OtherTest.{CertificateTest, fourWith, conditionsWith}
 use Rattle.document.specs.Entry.{encodeConditions, encodeEntry, readConditions, readEntry, decodeConditions, decodeEntry}
 use Rattle.document.specs.Card.{listingFor, listingOf, cardConditions, cardEntry}
-use Rattle.document.specs.Short.{short, stated, refusalsOf, judgeOf, encodeOf, readOf, decodeOf, listing, cardOf}
+use Rattle.document.specs.Marked.{markedConditions, markedEntry}
+use Rattle.document.specs.Short.{short, stated, refusalsOf, judgeOf, encodeOf, readOf, decodeOf, decodeMarkedOf, listing, cardOf}
 use Rattle.document.proofs.Theory.{Length, degree as degreeOf}
 use Rattle.document.proofs.Stated.{odd-to, odd-length, not-false}
 use Rattle.document.proofs.Meaning.{rule1-iff}
@@ -166,11 +167,15 @@ tested-first sheet own =
 abbrev pub Call : Type 0
 Call = List ℕ → List ℕ → List ℕ → Answer × List ℕ
 
+abbrev pub TrialCall : Type 0
+TrialCall = List ℕ → List ℕ → List ℕ → List ℕ → List ℕ → Answer × (List ℕ × List ℕ)
+
 pub record Replies : Type 0 where
   pub judge : List ℕ → Answer
   pub encode : Call
   pub read : Call
   pub decode : Call
+  pub decodeMarked : TrialCall
   pub text : List ℕ → List ℕ
   pub card : List ℕ → List ℕ → Answer × List ℕ
 
@@ -180,31 +185,43 @@ repliesBy R = record {
   encode = λ sheet message out. encodeEntry (R sheet) (stated sheet) message out;
   read = λ sheet word out. readEntry (R sheet) (stated sheet) word out;
   decode = λ sheet word out. decodeEntry (R sheet) (stated sheet) word out;
+  decodeMarked = λ sheet word marks zeros ones. markedEntry (R sheet) (stated sheet) word marks zeros ones;
   text = λ sheet. listingOf (R sheet) (stated sheet);
   card = λ sheet out. cardEntry 1024 (R sheet) (stated sheet) out;
 }
 
-settle-same : {r q : ℕ} (v w old : List ℕ) → r ≡ q → settle r v w old ≡ settle q v w old
-settle-same v w old e = ap (λ (k : ℕ). settle k v w old) e
+settle-same : {B : Type 0} {r q : ℕ} (v : List ℕ) (w old : B) → r ≡ q → settleIn r v w old ≡ settleIn q v w old
+settle-same v w old e = ap (λ (k : ℕ). settleIn k v w old) e
 
 tested-sheet : (sheet : List ℕ) → firstOf (refusalsOf sheet) ≡ firstOf (testedOf sheet)
 tested-sheet sheet = ap firstOf (sym (append-nil (refusalsOf sheet))) ∙ tested-first sheet [] ∙ ap firstOf (append-nil (testedOf sheet))
 
 -- the entries as they are defined
 abbrev pub documented : Replies
-documented = record { judge = judgeOf; encode = encodeOf; read = readOf; decode = decodeOf; text = listing; card = cardOf }
+documented = record {
+  judge = judgeOf;
+  encode = encodeOf;
+  read = readOf;
+  decode = decodeOf;
+  decodeMarked = decodeMarkedOf;
+  text = listing;
+  card = cardOf;
+}
 
 -- an entry sees no more of a sheet's conditions than which is the first that holds, of them and its own
 pub replies-tested : documented ≡ repliesBy testedOf
-unfolding judgeEntry encodeEntry readEntry decodeEntry listingOf cardEntry
+unfolding judgeEntry encodeEntry readEntry decodeEntry markedEntry listingOf cardEntry
 replies-tested =
-    ap₂ (λ j e. made j e (R .read) (R .decode) (R .text) (R .card))
+    ap₂ (λ j e. made j e (R .read) (R .decode) (R .decodeMarked) (R .text) (R .card))
     (fun-ext (λ sheet. ap (λ a. a .0) (settle-same _ _ _ (tested-sheet sheet))))
     (fun-ext (λ sheet. fun-ext (λ message. fun-ext (λ out. settle-same _ _ _ (tested-first sheet (encodeConditions (stated sheet) message out))))))
-    ∙ ap₂ (λ r d. made (T .judge) (T .encode) r d (R .text) (R .card))
+    ∙ ap₂ (λ r d. made (T .judge) (T .encode) r d (R .decodeMarked) (R .text) (R .card))
     (fun-ext (λ sheet. fun-ext (λ word. fun-ext (λ out. settle-same _ _ _ (tested-first sheet (readConditions (stated sheet) word out))))))
     (fun-ext (λ sheet. fun-ext (λ word. fun-ext (λ out. settle-same _ _ _ (tested-first sheet (decodeConditions (stated sheet) word out))))))
-    ∙ ap₂ (λ t c. made (T .judge) (T .encode) (T .read) (T .decode) t c) (fun-ext text-same)
+    ∙ ap (λ m. made (T .judge) (T .encode) (T .read) (T .decode) m (R .text) (R .card))
+    (fun-ext (λ sheet. fun-ext (λ word. fun-ext (λ marks. fun-ext (λ zeros. fun-ext (λ ones.
+    settle-same _ _ _ (tested-first sheet (markedConditions (stated sheet) word marks zeros ones))))))))
+    ∙ ap₂ (λ t c. made (T .judge) (T .encode) (T .read) (T .decode) (T .decodeMarked) t c) (fun-ext text-same)
     (fun-ext (λ sheet. fun-ext (λ out. ap
     (λ (l : List ℕ). settle (firstOf (cardConditions 1024 out)) (length l ∷ []) (l ++ drop (length l) out) out) (text-same sheet))))
   where
@@ -214,8 +231,8 @@ replies-tested =
     T : Replies
     T = repliesBy testedOf
 
-    made : (List ℕ → Answer) → Call → Call → Call → (List ℕ → List ℕ) → (List ℕ → List ℕ → Answer × List ℕ) → Replies
-    made j e r d t c = record { judge = j; encode = e; read = r; decode = d; text = t; card = c }
+    made : (List ℕ → Answer) → Call → Call → Call → TrialCall → (List ℕ → List ℕ) → (List ℕ → List ℕ → Answer × List ℕ) → Replies
+    made j e r d m t c = record { judge = j; encode = e; read = r; decode = d; decodeMarked = m; text = t; card = c }
 
     text-same : (sheet : List ℕ) → listingOf (refusalsOf sheet) (stated sheet) ≡ listingOf (testedOf sheet) (stated sheet)
     text-same sheet = ap (λ (r : ℕ). listingFor r (stated sheet)) (tested-sheet sheet)

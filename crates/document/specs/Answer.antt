@@ -3,9 +3,9 @@
 --   Answer                 a number, and values: 0 and what is returned, or a refusal's number and nothing
 --   returned, refused      the two kinds of answer; Conditions: conditions with the numbers of their refusals, in order
 --   firstOf conditions     the number of the first condition that holds; 0 if none does
---   settle                 what an entry answers, and what it leaves in the lent buffer
+--   settleIn, settle       what an entry answers, and what it leaves in the lent buffers: whichever they are, and a single one
 --   numberOf               a refusal's number
---   recordAs, judgedAs, repliedAs      what the answers of the entries mean
+--   recordAs, judgedAs, repliedAs, markedAs      what the answers of the entries mean
 use mathlib.Core.Bool.{Bool, true, false}
 use mathlib.Core.List.{List, [], _∷_}
 use Prim.Native.Nat.{ℕ, zero, suc}
@@ -13,12 +13,14 @@ use Rattle.document.specs.declared.types.Refusal.{Refusal}
 use Rattle.document.specs.declared.types.Refusal.the-variants.{SheetLength, CodeLength, FieldDegree, Header, Representative}
 use Rattle.document.specs.declared.types.Refusal.the-variants.{NoMessage}
 use Rattle.document.specs.declared.types.Refusal.the-variants.{Range, CommonFactor, Period, Term, BufferLength, SpareBit}
-use Rattle.document.specs.declared.types.Refusal.the-variants.{NoneNear, NoCodeword}
+use Rattle.document.specs.declared.types.Refusal.the-variants.{NoneNear, NoCodeword, NoneWithMarks}
 use Rattle.document.specs.declared.types.Record.{Record}
 use Rattle.document.specs.declared.types.Judged.{Judged}
 use Rattle.document.specs.declared.types.Judged.the-variants.{Accepted, Refused as NotAccepted}
 use Rattle.document.specs.declared.types.Reply.{Reply}
 use Rattle.document.specs.declared.types.Reply.the-variants.{Done, Refused}
+use Rattle.document.specs.declared.types.MarkedReply.{MarkedReply}
+use Rattle.document.specs.declared.types.MarkedReply.the-variants.{Shown, Refused as MarkedRefused}
 
 pub record Answer : Type 0 where
   pub number : ℕ
@@ -39,10 +41,13 @@ unfoldable pub firstOf : Conditions → ℕ
 firstOf [] = 0
 firstOf (c ∷ rest) = elim (c .1) [ true ↦ c .0 | false ↦ firstOf rest ]
 
--- "A refusal returns its number alone and changes no lent byte."
-unfoldable pub settle : ℕ → List ℕ → List ℕ → List ℕ → Answer × List ℕ
-settle zero values written old = (returned values, written)
-settle (suc r) values written old = (refused (suc r), old)
+-- "A refusal returns its number alone and changes no lent byte." B: the bytes of one lent buffer, or of two
+unfoldable pub settleIn : {B : Type 0} → ℕ → List ℕ → B → B → Answer × B
+settleIn zero values written old = (returned values, written)
+settleIn (suc r) values written old = (refused (suc r), old)
+
+abbrev pub settle : ℕ → List ℕ → List ℕ → List ℕ → Answer × List ℕ
+settle r values written old = settleIn r values written old
 
 -- ---- the enums
 abbrev pub numberOf : Refusal → ℕ
@@ -60,6 +65,7 @@ numberOf BufferLength = 11
 numberOf SpareBit = 12
 numberOf NoneNear = 13
 numberOf NoCodeword = 14
+numberOf NoneWithMarks = 15
 
 abbrev pub recordAs : Record → List ℕ
 recordAs r = r .n ∷ r .k ∷ r .s ∷ r .working ∷ r .d ∷ r .t ∷ r .terms ∷ []
@@ -71,3 +77,8 @@ judgedAs (NotAccepted r) = refused (numberOf r)
 abbrev pub repliedAs : Reply → Answer
 repliedAs (Done x) = returned (x ∷ [])
 repliedAs (Refused r) = refused (numberOf r)
+
+-- 2026-05: "One call tells e and which trial"
+abbrev pub markedAs : MarkedReply → Answer
+markedAs (Shown e trial) = returned (e ∷ trial ∷ [])
+markedAs (MarkedRefused r) = refused (numberOf r)

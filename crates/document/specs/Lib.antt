@@ -8,5 +8,6 @@ pub mod Certificate
 pub mod Judge
 pub mod OtherTest
 pub mod Entry
+pub mod Marked
 pub mod Card
 pub mod Short

@@ -5,6 +5,7 @@
 --   stated sheet          what a sheet states; refusalsOf sheet: the conditions 1 to 10 of its refusals, in order
 --   judgeOf sheet         judging
 --   encodeOf sheet message out, readOf sheet word out, decodeOf sheet word out      answer, and bytes
+--   decodeMarkedOf sheet word marks zeros ones      answer, and the bytes of both trial buffers
 --   listing sheet, cardOf sheet out      the listing, and the entry that writes it
 use mathlib.Core.List.{List}
 use Prim.Native.Nat.{ℕ, _+_, _*_}
@@ -13,6 +14,7 @@ use Rattle.document.specs.Answer.{Answer, Conditions}
 use Rattle.document.specs.Sheet.{Certificate, Stated, Header, Kind, statedBy}
 use Rattle.document.specs.Judge.{judgeConditions, judgeEntry}
 use Rattle.document.specs.Entry.{encodeEntry, readEntry, decodeEntry}
+use Rattle.document.specs.Marked.{markedEntry}
 use Rattle.document.specs.Card.{listingOf, cardEntry}
 
 abbrev pub byteAt : List ℕ → ℕ → ℕ
@@ -87,6 +89,9 @@ readOf sheet word out = readEntry (refusalsOf sheet) (stated sheet) word out
 
 abbrev pub decodeOf : List ℕ → List ℕ → List ℕ → Answer × List ℕ
 decodeOf sheet word out = decodeEntry (refusalsOf sheet) (stated sheet) word out
+
+abbrev pub decodeMarkedOf : List ℕ → List ℕ → List ℕ → List ℕ → List ℕ → Answer × (List ℕ × List ℕ)
+decodeMarkedOf sheet word marks zeros ones = markedEntry (refusalsOf sheet) (stated sheet) word marks zeros ones
 
 abbrev pub listing : List ℕ → List ℕ
 listing sheet = listingOf (refusalsOf sheet) (stated sheet)

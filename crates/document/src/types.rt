@@ -1,6 +1,6 @@
 // The answers of the entries. specs/Answer.antt gives the paper's number and values for each case.
 
-// Why something is refused, in the order of document 01's table "Refused, by number".
+// Why something is refused, in the order of document 01's table "Refused, by number"; then the refusals of document 02.
 pub enum Refusal {
     SheetLength,
     CodeLength,
@@ -16,6 +16,7 @@ pub enum Refusal {
     SpareBit,
     NoneNear,
     NoCodeword,
+    NoneWithMarks,
 }
 
 // The record made of an accepted sheet: d, t and terms are those of its working certificate.
@@ -34,9 +35,16 @@ pub enum Judged {
     Refused(Refusal),
 }
 
-// What the entries with a lent buffer return: a number (of changed places for decoding, the listing's length for a card, else 0),
+// What the entries with one lent buffer return: a number (of changed places for decoding, the listing's length for a card, else 0),
 // or a refusal.
 pub enum Reply {
     Done(usize),
+    Refused(Refusal),
+}
+
+// What decoding with marked places returns: in how many unmarked places the codeword shown and the received word differ, and the trial
+// whose buffer holds it; or a refusal.
+pub enum MarkedReply {
+    Shown { unmarked: usize, trial: usize },
     Refused(Refusal),
 }

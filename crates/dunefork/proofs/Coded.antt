@@ -6,11 +6,14 @@
 --   decode-few, card-few      what decoding returns is at most n, and a listing has at most 1,024 bytes
 --   fits               so they are numbers of 32 bits
 --   counted-done       such a number is its own code
+--   marked-replied, marked-refused, marked-few, marked-done      the same of decoding with marks
 use mathlib.Core.Path.{_≡_, refl, sym, ap, _∙_}
+use mathlib.Core.Bool.{Bool, true, false}
 use mathlib.Core.List.{List, [], _∷_, _++_}
-use Prim.Native.Nat.{ℕ, zero, suc, _+_, _/_, _^_, _≤_, _<_}
+use Prim.Native.Nat.{ℕ, zero, suc, _+_, _*_, _/_, _^_, _≤_, _<_}
 use native.Mathlib.Decide.{ℕ-discrete}
 use native.Mathlib.Omega.{arith}
+use lib.Dec.{eqb}
 use lib.IntN.{ℤ, pos, negℤ}
 use lib.ListN.{length, getD, drop, length-append}
 use mir.Syntax.{w32}
@@ -19,19 +22,24 @@ use mir.ValLaws.{toZ-pos}
 use Rattle.document.specs.declared.types.Refusal.{Refusal}
 use Rattle.document.specs.declared.types.Refusal.the-variants.{SheetLength, CodeLength, FieldDegree, Header, Representative, NoMessage, Range}
 use Rattle.document.specs.declared.types.Refusal.the-variants.{CommonFactor, Period, Term, BufferLength, SpareBit, NoneNear, NoCodeword}
+use Rattle.document.specs.declared.types.Refusal.the-variants.{NoneWithMarks}
 use Rattle.document.specs.declared.types.Reply.{Reply}
-use Rattle.document.specs.Answer.{Answer, returned, refused, numberOf, repliedAs, settle}
+use Rattle.document.specs.declared.types.MarkedReply.{MarkedReply}
+use Rattle.document.specs.Answer.{Answer, returned, refused, numberOf, repliedAs, markedAs, settleIn, settle}
+use Rattle.document.specs.Sheet.{Stated}
 use Rattle.document.specs.Generator.{differences}
 use Rattle.document.specs.Card.{cardEntry}
 use Rattle.document.specs.Entry.{encodeEntry, readEntry, wordOf, decodedWord, decodeEntry}
-use Rattle.document.specs.Short.{stated, refusalsOf, encodeOf, readOf, decodeOf, listing, cardOf}
+use Rattle.document.specs.Marked.{unmarkedChanged, markedWord, tried, trialShown, markedEntry}
+use Rattle.document.specs.Short.{stated, refusalsOf, encodeOf, readOf, decodeOf, decodeMarkedOf, listing, cardOf}
+use Rattle.document.proofs.Marking.{unmarked-le}
 use Rattle.field.specs.Mask.{_⊕_}
 use Rattle.field.proofs.Xor.{digit-lt}
 use Rattle.cyclic.proofs.Places.{count, count-z, count-s}
 use Rattle.certificate.proofs.Distance.{differences-are}
 use Rattle.judging.proofs.Weighing.{number-pos}
 use Rattle.listing.proofs.Cards.{card-size}
-use Rattle.dunefork.specs.Codes.{codeFor, codedAs}
+use Rattle.dunefork.specs.Codes.{codeFor, codedAs, markedCodeFor, markedCodedAs}
 
 minus : (r : ℕ) → 0 < r → codeFor r [] ≡ negℤ (pos r)
 unfolding codeFor
@@ -54,6 +62,7 @@ kept BufferLength = refl
 kept SpareBit = refl
 kept NoneNear = refl
 kept NoCodeword = refl
+kept NoneWithMarks = refl
 
 -- the reply is one of its cases
 pub replied : {r q : Reply} {o : List ℕ} {a : Answer × List ℕ} → r ≡ q → (repliedAs r, o) ≡ a → (repliedAs q, o) ≡ a
@@ -65,7 +74,7 @@ coded-refused q {x} {o} f e = ap (λ (z : ℤ). (z, o)) (ap (λ (z : ℤ). toZ w
 
 -- the value returned is the definition's
 settled : (x n v : ℕ) (w old o : List ℕ) → (returned (n ∷ []), o) ≡ settle x (v ∷ []) w old → n ≡ v
-unfolding settle
+unfolding settleIn
 settled zero n v w old o e = ap (λ (a : Answer × List ℕ). getD (a .0 .values) 0 0) e
 settled (suc r) n v w old o e =
     let z : 0 ≡ suc r = ap (λ (a : Answer × List ℕ). a .0 .number) e in absurd (omega arith)
@@ -108,7 +117,7 @@ decode-few sheet word out h e = omega (arith, changed-le sheet word out e)
 
 -- ---- listing
 listed-le : (x : ℕ) {m : ℕ} (text old rest o : List ℕ) → (returned (m ∷ []), o) ≡ settle x (length text ∷ []) (text ++ rest) old → m ≤ length o
-unfolding settle
+unfolding settleIn
 listed-le zero {m} text old rest o e =
     let v : m ≡ length text = ap (λ (a : Answer × List ℕ). getD (a .0 .values) 0 0) e in
     let w : length o ≡ length (text ++ rest) = ap (λ (a : Answer × List ℕ). length (a .1)) e in
@@ -125,3 +134,55 @@ card-few sheet out {m} {o} l e =
 
 pub counted-done : {m : ℕ} {o : List ℕ} {a : Answer × List ℕ} → SFits w32 (pos m) → (returned (m ∷ []), o) ≡ a → (toZ w32 m, o) ≡ codedAs a
 counted-done {m} {o} h e = ap (λ (x : ℤ). (x, o)) (toZ-pos w32 m (h .sfits) ∙ sym (code-of m)) ∙ ap codedAs e
+
+-- ---- decoding with marks
+minus-marked : (r : ℕ) → 0 < r → markedCodeFor r [] ≡ negℤ (pos r)
+unfolding markedCodeFor
+minus-marked zero h = absurd (omega arith)
+minus-marked (suc r) h = refl
+
+pub marked-replied : {r q : MarkedReply} {o : List ℕ × List ℕ} {a : Answer × (List ℕ × List ℕ)} → r ≡ q → (markedAs r, o) ≡ a → (markedAs q, o) ≡ a
+marked-replied {o = o} e f = sym (ap (λ (p : MarkedReply). (markedAs p, o)) e) ∙ f
+
+pub marked-refused : (q : Refusal) {x : ℤ} {o : List ℕ × List ℕ} {a : Answer × (List ℕ × List ℕ)} → x ≡ negℤ (pos (numberOf q))
+    → (refused (numberOf q), o) ≡ a → (toZ w32 (ofZ w32 x), o) ≡ markedCodedAs a
+marked-refused q {x} {o} f e =
+    ap (λ (z : ℤ). (z, o)) (ap (λ (z : ℤ). toZ w32 (ofZ w32 z)) f ∙ kept q ∙ sym (minus-marked (numberOf q) (number-pos q)))
+    ∙ ap markedCodedAs e
+
+-- both values are the definition's
+both-settled : (x n m u v : ℕ) (w old o : List ℕ × List ℕ) → (returned (n ∷ m ∷ []), o) ≡ settleIn x (u ∷ v ∷ []) w old → (n ≡ u) × (m ≡ v)
+unfolding settleIn
+both-settled zero n m u v w old o e = (
+  ap (λ (a : Answer × (List ℕ × List ℕ)). getD (a .0 .values) 0 0) e,
+  ap (λ (a : Answer × (List ℕ × List ℕ)). getD (a .0 .values) 1 0) e,
+)
+both-settled (suc r) n m u v w old o e =
+    let z : 0 ≡ suc r = ap (λ (a : Answer × (List ℕ × List ℕ)). a .0 .number) e in absurd (omega arith)
+
+trial-le : (x : Stated) (word marks : List ℕ) → trialShown x word marks ≤ 1
+unfolding trialShown
+trial-le x word marks = go (eqb (wordOf x (tried x 0 word marks)) (markedWord x word marks))
+  where
+    go : (b : Bool) → (elim b as (λ _. ℕ) [ true ↦ 0 | false ↦ 1 ]) ≤ 1
+    go true = omega arith
+    go false = omega arith
+
+pub marked-few : (sheet word marks zeros ones : List ℕ) {e trial : ℕ} {o : List ℕ × List ℕ} → stated sheet .n < 65536
+    → (returned (e ∷ trial ∷ []), o) ≡ decodeMarkedOf sheet word marks zeros ones → 2 * e + trial < 2147483648
+unfolding markedEntry
+marked-few sheet word marks zeros ones {e} {trial} h q =
+    let x = stated sheet in
+    let v = both-settled _ e trial (unmarkedChanged x word marks (markedWord x word marks)) (trialShown x word marks) _ _ _ q in
+    omega (
+      arith,
+      v .0,
+      v .1,
+      trial-le x word marks,
+      unmarked-le (x .n) (wordOf x marks) (wordOf x word) (markedWord x word marks),
+    )
+
+pub marked-done : {e trial : ℕ} {o : List ℕ × List ℕ} {a : Answer × (List ℕ × List ℕ)} → SFits w32 (pos (2 * e + trial))
+    → (returned (e ∷ trial ∷ []), o) ≡ a → (toZ w32 (2 * e + trial), o) ≡ markedCodedAs a
+unfolding markedCodeFor
+marked-done {e} {trial} {o} h q = ap (λ (x : ℤ). (x, o)) (toZ-pos w32 (2 * e + trial) (h .sfits)) ∙ ap markedCodedAs q

@@ -1,9 +1,10 @@
 -- Answers as C has them.
 --
---   returnCode a       one number for an answer: what is returned, or minus the refusal's number
+--   codeFor, returnCode a       one number for an answer: what is returned, or minus the refusal's number
 --   codedAs p      the same beside the bytes of the lent buffer
+--   markedCodeFor, markedCode a, markedCodedAs p      the same of decoding with marks: 2·e + trial, beside the bytes of both buffers
 use mathlib.Core.List.{List}
-use Prim.Native.Nat.{ℕ, zero, suc}
+use Prim.Native.Nat.{ℕ, zero, suc, _+_, _*_}
 use lib.IntN.{ℤ, pos, negℤ}
 use lib.ListN.{getD}
 use Rattle.document.specs.Answer.{Answer}
@@ -18,3 +19,14 @@ returnCode a = codeFor (a .number) (a .values)
 
 abbrev pub codedAs : Answer × List ℕ → ℤ × List ℕ
 codedAs p = (returnCode (p .0), p .1)
+
+-- 2·e + trial: e is half of it, rounded down, and the trial is its lowest bit
+unfoldable pub markedCodeFor : ℕ → List ℕ → ℤ
+markedCodeFor zero values = pos (2 * getD values 0 0 + getD values 1 0)
+markedCodeFor (suc r) values = negℤ (pos (suc r))
+
+abbrev pub markedCode : Answer → ℤ
+markedCode a = markedCodeFor (a .number) (a .values)
+
+abbrev pub markedCodedAs : Answer × (List ℕ × List ℕ) → ℤ × (List ℕ × List ℕ)
+markedCodedAs p = (markedCode (p .0), p .1)

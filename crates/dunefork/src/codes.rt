@@ -23,5 +23,6 @@ pub fn refusal_code(r: Refusal) -> i32
         Refusal::SpareBit => -12,
         Refusal::NoneNear => -13,
         Refusal::NoCodeword => -14,
+        Refusal::NoneWithMarks => -15,
     }
 }

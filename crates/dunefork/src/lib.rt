@@ -2,9 +2,12 @@
 pub mod codes;
 
 ghost use mathlib.Core.Path.{_≡_};
-ghost use Rattle.document.specs.Short.{encodeOf, readOf, decodeOf, cardOf};
-ghost use Rattle.dunefork.specs.Codes.{codedAs};
+ghost use lib.ListN.{length};
+ghost use Rattle.document.specs.Marked.{shownOf};
+ghost use Rattle.document.specs.Short.{encodeOf, readOf, decodeOf, decodeMarkedOf, cardOf};
+ghost use Rattle.dunefork.specs.Codes.{codedAs, markedCodedAs};
 use crate::codes::refusal_code;
+use document::types::MarkedReply;
 use document::types::Reply;
 
 // The codeword of a message into out.
@@ -41,6 +44,38 @@ pub extern "C" fn dunefork_decode(sheet: &[u8], word: &[u8], out: &mut [u8]) -> 
         Reply::Done(m) => m as i32,
         Reply::Refused(r) => refusal_code(r),
     }
+}
+
+// Both decoded trial words of a received word with marked places; 2·e + trial.
+#[no_mangle]
+pub extern "C" fn dunefork_decode_marked(
+    sheet: &[u8],
+    word: &[u8],
+    marks: &[u8],
+    zeros: &mut [u8],
+    ones: &mut [u8],
+) -> i32
+    ensures { λ r. ⌜ (r, (now (zeros .exit), now (ones .exit))) ≡ markedCodedAs (decodeMarkedOf (now (sheet .entry)) (now (word .entry)) (now (marks .entry)) (now (zeros .entry)) (now (ones .entry))) ⌝ }
+{
+    let reply = code::marked::decode_marked(sheet, word, marks, zeros, ones);
+    match reply {
+        MarkedReply::Shown { unmarked, trial } => (2 * unmarked + trial) as i32,
+        MarkedReply::Refused(r) => refusal_code(r),
+    }
+}
+
+// How long the part of a trial buffer is that is shown. An exported function cannot return the part itself.
+#[no_mangle]
+pub extern "C" fn dunefork_shown_length<'a>(
+    trial: usize,
+    n: usize,
+    zeros: &'a [u8],
+    ones: &'a [u8],
+) -> usize
+    ensures { λ r. ⌜ r ≡ length (shownOf trial n (now (zeros .entry)) (now (ones .entry))) ⌝ }
+{
+    let part = code::marked::shown(trial, n, zeros, ones);
+    part.len()
 }
 
 // The listing of a sheet, refused ones too, into out; its length.

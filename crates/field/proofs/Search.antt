@@ -10,11 +10,14 @@
 --   every-at, every-of              all numbers below n pass exactly when each does
 --   length-upTo, length-keep        lengths
 --   total-z, total-s, total-more, total-ext     sums
+--   total-add, total-join      of two terms, and of more terms
+--   total-le, total-term       smaller terms have a smaller sum; each term is at most the sum
+--   total-most, total-still    terms of 0 and 1 amount to at most their number; terms that are 0 from n on may be left out
 use mathlib.Core.Path.{_≡_, refl, sym, ap, ap₂, _∙_}
 use mathlib.Core.Logic.{_≢_, _⊎_, inl, inr}
 use mathlib.Core.Bool.{Bool, true, false, _&&_, _||_}
 use mathlib.Core.List.{List, [], _∷_, _++_}
-use Prim.Native.Nat.{ℕ, zero, suc, _+_, _≤_, _<_}
+use Prim.Native.Nat.{ℕ, zero, suc, _+_, _-_, _≤_, _<_}
 use native.Mathlib.Decide.{ℕ-discrete, decLt}
 use native.Mathlib.Numerals.{add-one}
 use native.Mathlib.Omega.{arith}
@@ -262,3 +265,59 @@ pub total-ext : (n : ℕ) (f g : ℕ → ℕ) → ((i : ℕ) → i < n → f i �
 total-ext zero f g h = total-z f ∙ sym (total-z g)
 total-ext (suc n) f g h =
     total-s n f ∙ ap₂ _+_ (total-ext n f g (λ i l. h i (omega arith))) (h n (omega arith)) ∙ sym (total-s n g)
+
+pub total-add : (n : ℕ) (f g : ℕ → ℕ) → total n (λ i. f i + g i) ≡ total n f + total n g
+total-add zero f g = total-z (λ i. f i + g i) ∙ sym (ap₂ _+_ (total-z f) (total-z g))
+total-add (suc n) f g =
+    let ih : total n (λ i. f i + g i) ≡ total n f + total n g = total-add n f g in
+    let a : total (suc n) (λ i. f i + g i) ≡ total n (λ i. f i + g i) + (f n + g n) = total-s n (λ i. f i + g i) in
+    let b : total (suc n) f ≡ total n f + f n = total-s n f in
+    let c : total (suc n) g ≡ total n g + g n = total-s n g in
+    omega arith
+
+pub total-le : (n : ℕ) (f g : ℕ → ℕ) → ((i : ℕ) → i < n → f i ≤ g i) → total n f ≤ total n g
+total-le zero f g h = let a : total 0 f ≡ 0 = total-z f in omega arith
+total-le (suc n) f g h =
+    let ih : total n f ≤ total n g = total-le n f g (λ i l. h i (omega arith)) in
+    let a : total (suc n) f ≡ total n f + f n = total-s n f in
+    let b : total (suc n) g ≡ total n g + g n = total-s n g in
+    let c : f n ≤ g n = h n (omega arith) in
+    omega arith
+
+pub total-join : (m n : ℕ) (f : ℕ → ℕ) → total (m + n) f ≡ total m f + total n (λ i. f (m + i))
+total-join m zero f =
+    let a : total 0 (λ i. f (m + i)) ≡ 0 = total-z (λ i. f (m + i)) in
+    let e : m + 0 ≡ m = omega arith in
+    ap (λ (k : ℕ). total k f) e ∙ omega arith
+total-join m (suc n) f =
+    let ih : total (m + n) f ≡ total m f + total n (λ i. f (m + i)) = total-join m n f in
+    let a : total (suc n) (λ i. f (m + i)) ≡ total n (λ i. f (m + i)) + f (m + n) = total-s n (λ i. f (m + i)) in
+    let e : m + suc n ≡ suc (m + n) = omega arith in
+    ap (λ (k : ℕ). total k f) e ∙ total-s (m + n) f ∙ omega arith
+
+pub total-term : (n : ℕ) (f : ℕ → ℕ) (i : ℕ) → i < n → f i ≤ total n f
+total-term zero f i h = absurd (omega arith)
+total-term (suc n) f i h =
+    let a : total (suc n) f ≡ total n f + f n = total-s n f in
+    elim (ℕ-discrete i n) [
+      | yes e ↦ (let q : f i ≡ f n = ap f e in omega arith)
+      | no e ↦ (let ih : f i ≤ total n f = total-term n f i (omega arith) in omega arith)
+    ]
+
+pub total-most : (n : ℕ) (f : ℕ → ℕ) → ((i : ℕ) → f i < 2) → total n f ≤ n
+total-most zero f h = let z : total 0 f ≡ 0 = total-z f in omega arith
+total-most (suc n) f h =
+    let s : total (suc n) f ≡ total n f + f n = total-s n f in
+    let l : total n f ≤ n = total-most n f h in
+    let k : f n < 2 = h n in
+    omega arith
+
+-- terms that are 0 from n on may be left out
+pub total-still : (n m : ℕ) (f : ℕ → ℕ) → n ≤ m → ((i : ℕ) → n ≤ i → f i ≡ 0) → total m f ≡ total n f
+total-still n m f h z =
+    let e : m ≡ n + (m - n) = omega arith in
+    ap (λ (k : ℕ). total k f) e ∙ total-join n (m - n) f ∙ omega (arith, none (m - n))
+  where
+    none : (k : ℕ) → total k (λ i. f (n + i)) ≡ 0
+    none zero = total-z (λ i. f (n + i))
+    none (suc k) = total-s k (λ i. f (n + i)) ∙ ap₂ _+_ (none k) (z (n + k) (omega arith))

@@ -19,7 +19,7 @@ use Rattle.field.specs.Search.{upTo, keep, some, total, bit}
 use Rattle.field.specs.Field.{orderOfTwo}
 use Rattle.field.proofs.Search.{keep-suc, length-upTo, length-keep, total-z, total-s, total-ext}
 use Rattle.judging.specs.declared.types.Best.{Best}
-use Rattle.document.specs.Answer.{returned, refused, Conditions, firstOf, settle}
+use Rattle.document.specs.Answer.{returned, refused, Conditions, firstOf, settleIn, settle}
 use Rattle.document.specs.Sheet.{Stated, Kind, statedBy, wrongLength, wrongCodeLength, wrongHeader}
 use Rattle.document.specs.Coset.{inSet, definingSet, dimension}
 use Rattle.document.specs.Certificate.{distance, radius}
@@ -34,7 +34,7 @@ use Rattle.judging.specs.Weigh.{statedAs, weighOf, recorded, statedCondi
 use Rattle.judging.proofs.Weighing.{settle-refused, stated-count}
 
 settle-none : (v : List ℕ) → settle 0 v [] [] .0 ≡ returned v
-unfolding settle
+unfolding settleIn
 settle-none v = refl
 
 -- ---- judging, by the number of the first condition that holds

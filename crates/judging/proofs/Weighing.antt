@@ -23,9 +23,9 @@ use Rattle.document.specs.declared.types.Refusal.{Refusal}
 use Rattle.document.specs.declared.types.Refusal.the-variants.{SheetLength, CodeLength, FieldDegree, Header, Representative}
 use Rattle.document.specs.declared.types.Refusal.the-variants.{NoMessage}
 use Rattle.document.specs.declared.types.Refusal.the-variants.{Range, CommonFactor, Period, Term, BufferLength, SpareBit}
-use Rattle.document.specs.declared.types.Refusal.the-variants.{NoneNear, NoCodeword}
+use Rattle.document.specs.declared.types.Refusal.the-variants.{NoneNear, NoCodeword, NoneWithMarks}
 use Rattle.judging.specs.declared.types.Best.{Best}
-use Rattle.document.specs.Answer.{Answer, returned, refused, numberOf, Conditions, firstOf, settle}
+use Rattle.document.specs.Answer.{Answer, returned, refused, numberOf, Conditions, firstOf, settleIn, settle}
 use Rattle.document.specs.Sheet.{Certificate, Stated, certificateAt}
 use Rattle.document.specs.Certificate.{distance, beats, working}
 use Rattle.document.specs.Judge.{workingOf, workingCertificate}
@@ -52,14 +52,15 @@ number-pos BufferLength = omega arith
 number-pos SpareBit = omega arith
 number-pos NoneNear = omega arith
 number-pos NoCodeword = omega arith
+number-pos NoneWithMarks = omega arith
 
 pub settle-refused : (r : ℕ) (v w o : List ℕ) → 0 < r → settle r v w o .0 ≡ refused r
-unfolding settle
+unfolding settleIn
 settle-refused zero v w o h = absurd (omega arith)
 settle-refused (suc r) v w o h = refl
 
 settle-zero : (v w o : List ℕ) → settle 0 v w o .0 ≡ returned v
-unfolding settle
+unfolding settleIn
 settle-zero v w o = refl
 
 -- ---- the better of two, by the tests of the code

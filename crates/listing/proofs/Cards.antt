@@ -13,7 +13,7 @@ use native.Mathlib.Omega.{arith}
 use lib.Dec.{eqb}
 use lib.ListN.{length, drop}
 use borrow.Author.Tests.{eq-eqb, ne-eqb}
-use Rattle.document.specs.Answer.{returned, refused, Conditions, firstOf, settle}
+use Rattle.document.specs.Answer.{returned, refused, Conditions, firstOf, settleIn, settle}
 use Rattle.document.specs.Sheet.{Stated}
 use Rattle.document.specs.Card.{acceptedLines, refusedLine, listingFor, listingOf, cardConditions, cardEntry}
 use Rattle.document.proofs.Chain.{first-true, first-false}
@@ -36,14 +36,14 @@ module _ (room : ℕ) (sheet : Conditions) (x : Stated) where
 
   -- a buffer of another length
   pub card-size : (out : List ℕ) → length out ≢ room → (refused 11, out) ≡ cardEntry room sheet x out
-  unfolding cardEntry cardConditions settle
+  unfolding cardEntry cardConditions settleIn
   card-size out h =
       sym (ap (λ (y : ℕ). settle y (length (listingOf sheet x) ∷ []) (listingOf sheet x ++ drop (length (listingOf sheet x)) out) out)
       (first-true (11, not (eqb (length out) room)) [] (ap not (ne-eqb (length out) room h))))
 
   module _ {out out′ : List ℕ} {r : ℕ} (h : length out ≡ room) where
     card : Wrote (listingOf sheet x) 0 out out′ r → (returned (r ∷ []), out′) ≡ cardEntry room sheet x out
-    unfolding cardEntry cardConditions settle firstOf
+    unfolding cardEntry cardConditions settleIn firstOf
     card w =
         page w
         ∙ sym (ap (λ (y : ℕ). settle y (length (listingOf sheet x) ∷ []) (listingOf sheet x ++ drop (length (listingOf sheet x)) out) out)

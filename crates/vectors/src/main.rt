@@ -1,7 +1,7 @@
 // Calls of the entries from standard input, and for each what it answers. A call is four bytes, its kind, the lengths of sheet and
 // input, and the length of the buffer lent or of the words; then sheet and input. Kinds: 0 judge and card, 1 encode, 2 read,
-// 3 decode, 4 decode with every word of a length, 5 card with a buffer whose length is the input, two bytes. tools/answers.py makes
-// the calls, and the same answers with none of this code.
+// 3 decode, 4 decode with every word of a length, 5 card with a buffer whose length is the input, two bytes, 6 decode with marks, 7 the
+// part that is shown. tools/answers.py makes the calls, and the same answers with none of this code.
 
 // what lines are made of
 mod line;
@@ -17,6 +17,9 @@ mod words;
 
 // the line about all words of a length
 mod every;
+
+// lines about words with marked places, and the part that is shown
+mod marked;
 
 use crate::line::wide;
 use libc::STDIN_FILENO;
@@ -35,7 +38,7 @@ fn main() {
 fn answer_call() -> bool {
     let mut head = [0u8; 4];
     let mut sheet = [0u8; 80];
-    let mut input = [0u8; 20];
+    let mut input = [0u8; 40];
     if io::read_full(STDIN_FILENO, &mut head) == 0 {
         return false;
     }
@@ -76,6 +79,14 @@ fn lines(kind: u8, sheet: &[u8], input: &[u8], length: usize) {
     }
     if kind == 5 {
         cards::card_lines(sheet, input);
+        return;
+    }
+    if kind == 6 {
+        marked::marked_line(sheet, input);
+        return;
+    }
+    if kind == 7 {
+        marked::shown_line(input);
         return;
     }
     words::word_line(kind, sheet, input, length);

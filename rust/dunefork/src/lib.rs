@@ -1,6 +1,6 @@
 //! Binary cyclic codes for a noisy wire, each code given by a *code sheet*: a few bytes that name the code and carry a
 //! certificate of its distance. This crate hands calls on to the proved static library `libdunefork.a`; it adds lengths,
-//! pointers and an error type, and no arithmetic.
+//! pointers and an error type, and takes one number apart (2 e + trial).
 //!
 //! ```
 //! // Sheet B of document 01: n = 15 places, k = 7 message places, any t = 2 wrong places are corrected.
@@ -29,11 +29,14 @@
 //! - Place i of a message has weight 2^(i mod 8) in byte i div 8: the lowest bit of each byte is its first place, and the spare bits
 //!   are the high bits of the last byte.
 //!
-//! Spare bits must be 0 in what is handed over, and are 0 in what comes back. n is byte 2 of the sheet; [`card`] tells n, k and t of a
-//! sheet, and docs/SHEETS.md how to write one.
+//! Where the modem knows some places only as "0 or 1", [`decode_marked`] is told which and corrects more. Marks lie in bytes as a word
+//! does.
 //!
-//! Every call judges the sheet anew. Nothing is kept between calls: no heap, no global state, no lock. A call that fails leaves
-//! the output buffer as it was, every byte of it. docs/STACK.md tells how much stack a call takes.
+//! Spare bits must be 0 in what is handed over, and are 0 in what comes back. n is byte 2 of the sheet; [`card`] tells n, k, d and t of
+//! a sheet, and docs/SHEETS.md how to write one.
+//!
+//! Every call that is handed a sheet judges it anew. Nothing is kept between calls: no heap, no global state, no lock. A call that
+//! fails leaves the buffers that it was lent as they were, every byte of them. docs/STACK.md tells how much stack a call takes.
 //!
 //! Building: cargo links `libdunefork.a` from the folder that DUNEFORK_LIB_DIR names; where it is not set, build.rs proves and
 //! builds the library in the repository that this crate stands in, by `rt staticlib dunefork`.
@@ -64,7 +67,7 @@ pub const fn bytes(places: usize) -> usize {
     places / 8 + (places % 8 != 0) as usize
 }
 
-/// Why a call was refused. The numbers are those of document 01; the conditions are tried in their order, those of certificates
+/// Why a call was refused. The numbers are those of documents 01 and 02; the conditions are tried in their order, those of certificates
 /// (7 to 10) for one certificate after the other. Later versions may have more.
 #[derive(Clone, Copy, Debug, PartialEq, Eq, PartialOrd, Ord, Hash)]
 #[repr(u8)]
@@ -90,18 +93,20 @@ pub enum Error {
     Period = 9,
     /// A certificate counts on a zero that the code does not have.
     Term = 10,
-    /// The input or the output buffer has not its exact length.
+    /// An input or an output buffer has not its exact length.
     BufferLength = 11,
-    /// A spare bit of the input is 1: a low one in a word's last byte, a high one in a message's.
+    /// A spare bit of an input is 1: a low one in the last byte of a word or of marks, a high one in a message's.
     SpareBit = 12,
     /// Decoding: no codeword lies within t places of the word.
     NoneNear = 13,
     /// Reading out: the word is no codeword.
     NoCodeword = 14,
+    /// Decoding a marked word: no codeword differs from it in e unmarked places with 2·e + r at most d - 1, where r are marked.
+    NoneWithMarks = 15,
 }
 
 impl Error {
-    /// The number in document 01's table, 1 to 14.
+    /// The number that document 01 or 02 gives it, 1 to 15.
     ///
     /// ```
     /// let error = dunefork::encode(&[], &[], &mut []).unwrap_err();
@@ -111,7 +116,7 @@ impl Error {
         self as u8
     }
 
-    /// The error of a number in document 01's table.
+    /// The error of such a number.
     pub const fn from_number(number: u8) -> Option<Error> {
         Some(match number {
             1 => Error::SheetLength,
@@ -128,6 +133,7 @@ impl Error {
             12 => Error::SpareBit,
             13 => Error::NoneNear,
             14 => Error::NoCodeword,
+            15 => Error::NoneWithMarks,
             _ => return None,
         })
     }
@@ -148,10 +154,11 @@ impl fmt::Display for Error {
             Error::CommonFactor => "the masks h and f of a certificate have a common factor",
             Error::Period => "two of a certificate's f(α^i·x), i below n, have a common factor",
             Error::Term => "a certificate counts on a zero that the code does not have",
-            Error::BufferLength => "the input or the output buffer has not its exact length",
-            Error::SpareBit => "a spare bit of the input's last byte is 1",
+            Error::BufferLength => "an input or an output buffer has not its exact length",
+            Error::SpareBit => "a spare bit of an input's last byte is 1",
             Error::NoneNear => "no codeword lies within t places of the word",
             Error::NoCodeword => "the word is no codeword",
+            Error::NoneWithMarks => "no codeword differs from the word in so few unmarked places as its marks allow",
         };
         write!(f, "refusal {}: {}", self.number(), meaning)
     }
@@ -168,6 +175,19 @@ mod c {
         fn dunefork_encode(s: *const u8, s_len: usize, i: *const u8, i_len: usize, o: *mut u8, o_len: usize) -> i32;
         fn dunefork_read(s: *const u8, s_len: usize, i: *const u8, i_len: usize, o: *mut u8, o_len: usize) -> i32;
         fn dunefork_decode(s: *const u8, s_len: usize, i: *const u8, i_len: usize, o: *mut u8, o_len: usize) -> i32;
+        fn dunefork_decode_marked(
+            s: *const u8,
+            s_len: usize,
+            w: *const u8,
+            w_len: usize,
+            m: *const u8,
+            m_len: usize,
+            z: *mut u8,
+            z_len: usize,
+            o: *mut u8,
+            o_len: usize,
+        ) -> i32;
+        fn dunefork_shown_length(trial: usize, n: usize, z: *const u8, z_len: usize, o: *const u8, o_len: usize) -> usize;
         fn dunefork_card(s: *const u8, s_len: usize, o: *mut u8, o_len: usize) -> i32;
     }
 
@@ -180,6 +200,37 @@ mod c {
         // SAFETY: the entries read the two inputs and write `out` within the lengths that go with them, and keep no pointer.
         // `out` is borrowed exclusively, so that it overlaps neither input.
         answer(unsafe { entry(sheet.as_ptr(), sheet.len(), input.as_ptr(), input.len(), out.as_mut_ptr(), out.len()) })
+    }
+
+    /// The answer for a word with marks: 2·e + trial.
+    pub fn decode_marked(
+        sheet: &[u8],
+        word: &[u8],
+        marks: &[u8],
+        zeros: &mut [u8],
+        ones: &mut [u8],
+    ) -> Result<usize, super::Error> {
+        // SAFETY: as above, with two buffers that are written, each borrowed exclusively.
+        answer(unsafe {
+            dunefork_decode_marked(
+                sheet.as_ptr(),
+                sheet.len(),
+                word.as_ptr(),
+                word.len(),
+                marks.as_ptr(),
+                marks.len(),
+                zeros.as_mut_ptr(),
+                zeros.len(),
+                ones.as_mut_ptr(),
+                ones.len(),
+            )
+        })
+    }
+
+    /// How much of the trial's buffer is shown.
+    pub fn shown_length(trial: usize, n: usize, zeros: &[u8], ones: &[u8]) -> usize {
+        // SAFETY: nothing is written.
+        unsafe { dunefork_shown_length(trial, n, zeros.as_ptr(), zeros.len(), ones.as_ptr(), ones.len()) }
     }
 
     /// The listing of a sheet into `out`: its length.
@@ -265,6 +316,60 @@ pub fn read(sheet: &[u8], word: &[u8], out: &mut [u8]) -> Result<(), Error> {
 /// Refusals 1 to 12, and [`Error::NoneNear`] exactly where no codeword is within t places; `out` is then as it was.
 pub fn decode(sheet: &[u8], word: &[u8], out: &mut [u8]) -> Result<usize, Error> {
     c::call(c::DECODE, sheet, word, out)
+}
+
+/// Corrects a received word some of whose places are marked, with a 1 in `marks`, as known only as "0 or 1". With r marked places, and d
+/// the sheet's distance, that of the certificate at work, the answer is the codeword that differs from the word in e unmarked places with
+/// 2·e + r at most d - 1; e comes back, and the codeword. There is never more than one such codeword. What the word has in marked places
+/// changes nothing; with no mark the answer is that of [`decode`], and [`Error::NoneWithMarks`] stands for [`Error::NoneNear`].
+///
+/// `word`, `marks`, `zeros` and `ones` have exactly `bytes(n)` bytes each. The codeword that comes back lies in `zeros` or in `ones`.
+/// After an answer `zeros` holds what [`decode`] makes of the word with 0 in all marked places, or that word itself where decoding gives
+/// [`Error::NoneNear`]; `ones` likewise with 1 in all marked places. Where both hold the answer, it is that in `zeros`.
+///
+/// ```
+/// // Sheet B of document 01: d = 5, so that one wrong place and two marked ones are put right, or four marked ones.
+/// const SHEET: [u8; 20] = [20, 0, 15, 2, 10, 0, 1, 0, 12, 0, 1, 3, 1, 1, 3, 0, 1, 0, 4, 0];
+/// const SENT: [u8; 2] = [0b1010_0111, 0b1010_1010];
+///
+/// let (mut zeros, mut ones) = ([0; 2], [0; 2]);
+/// let received = [0b0010_0111, 0b1001_1010]; // place 0 is wrong, and so are the marked ones, 10 and 11
+/// let marks = [0b0000_0000, 0b0011_0000];
+/// assert_eq!(dunefork::decode_marked(&SHEET, &received, &marks, &mut zeros, &mut ones)?, (1, &SENT[..]));
+///
+/// let marks = [0b1000_0000, 0b0111_0000];
+/// assert_eq!(dunefork::decode_marked(&SHEET, &received, &marks, &mut zeros, &mut ones)?, (0, &SENT[..]));
+/// # Ok::<(), dunefork::Error>(())
+/// ```
+///
+/// # Errors
+///
+/// Refusals 1 to 12, and [`Error::NoneWithMarks`] exactly where there is no such codeword; `zeros` and `ones` are then both as they
+/// were.
+pub fn decode_marked<'a>(
+    sheet: &[u8],
+    word: &[u8],
+    marks: &[u8],
+    zeros: &'a mut [u8],
+    ones: &'a mut [u8],
+) -> Result<(usize, &'a [u8]), Error> {
+    let answer = c::decode_marked(sheet, word, marks, zeros, ones)?;
+    Ok((answer / 2, shown(answer % 2, sheet[2].into(), zeros, ones)))
+}
+
+/// The part of a trial's buffer that is shown: the first n/8 bytes, rounded up, of `zeros` if the trial is 0 and of `ones` for any
+/// other number, or all of that buffer if it is shorter. Nothing is copied and nothing refused. [`decode_marked`] hands this back of its
+/// buffers.
+///
+/// ```
+/// let (zeros, ones) = ([1, 2, 3], [4, 5, 6]);
+/// assert_eq!(dunefork::shown(0, 15, &zeros, &ones), [1, 2]);
+/// assert_eq!(dunefork::shown(7, 17, &zeros, &ones), [4, 5, 6]);
+/// assert_eq!(dunefork::shown(1, usize::MAX, &zeros, &ones[..1]), [4]);
+/// ```
+pub fn shown<'a>(trial: usize, n: usize, zeros: &'a [u8], ones: &'a [u8]) -> &'a [u8] {
+    let length = c::shown_length(trial, n, zeros, ones);
+    &(if trial == 0 { zeros } else { ones })[..length]
 }
 
 /// Tells what a sheet amounts to: its listing, the text of the program `linkcard`, written into `out`. The lines are `code N K S`, S

@@ -1,5 +1,5 @@
 //! Document 01's cases and refusals, as far as they go through these functions, with words laid out as document 02 says.
-use dunefork::{bytes, card, decode, encode, read, Error, CARD_BYTES};
+use dunefork::{bytes, card, decode, decode_marked, encode, read, shown, Error, CARD_BYTES};
 
 /// A sheet with one certificate b, z, f, h, L.
 fn sheet(n: u8, representatives: &[u8], [b, z, f, h, terms]: [u8; 5]) -> Vec<u8> {
@@ -64,10 +64,24 @@ fn decoded(sheet: &[u8], n: usize, word: u64) -> (Result<usize, Error>, u64) {
     (answer, word_mask(&out))
 }
 
-/// Every entry refuses the sheet with this error and leaves the buffer as it was.
+/// What a call with marks answers, the codeword as a mask, and the words that it leaves in the two buffers, with AA in them before.
+type Marked = (Result<(usize, u64), Error>, u64, u64);
+
+fn decoded_marked(sheet: &[u8], n: usize, word: u64, marks: u64) -> Marked {
+    let (mut zeros, mut ones) = (vec![0xaa; bytes(n)], vec![0xaa; bytes(n)]);
+    let answer = decode_marked(sheet, &word_bytes(word, n), &word_bytes(marks, n), &mut zeros, &mut ones);
+    let answer = answer.map(|(e, codeword)| (e, word_mask(codeword)));
+    (answer, word_mask(&zeros), word_mask(&ones))
+}
+
+/// Every entry refuses the sheet with this error and leaves the buffers as they were.
 fn refused(sheet: &[u8], error: Error) {
     for len in 0..4 {
         let mut out = [0xaa; 3];
+        let mut other = [0xaa; 3];
+        let input = &[0xff; 4][..len];
+        assert_eq!(decode_marked(sheet, input, input, &mut out, &mut other), Err(error));
+        assert_eq!(other, [0xaa; 3]);
         assert_eq!(encode(sheet, &[0xff; 4][..len], &mut out), Err(error));
         assert_eq!(read(sheet, &[0xff; 4][..len], &mut out), Err(error));
         assert_eq!(decode(sheet, &[0xff; 4][..len], &mut out), Err(error));
@@ -179,6 +193,150 @@ fn refusals_of_words() {
     assert_eq!(out, [0xaa]);
 }
 
+/// The words of n places with this many ones.
+fn patterns(n: usize, weight: u32) -> impl Iterator<Item = u64> {
+    (0..1 << n).filter(move |pattern: &u64| pattern.count_ones() == weight)
+}
+
+/// Request 2026-05, by its words: the only codeword with 2·e + r at most d - 1, found among all, and the two trials decoded one by one.
+fn with_marks(sheet: &[u8], k: usize, n: usize, d: u32, word: u64, marks: u64) -> Marked {
+    let fits = |codeword: &u64| 2 * ((codeword ^ word) & !marks).count_ones() + marks.count_ones() < d;
+    let mut fitting = (0..1 << k).map(|message| encoded(sheet, k, n, message).1).filter(fits);
+    let found = fitting.next();
+    assert_eq!(fitting.next(), None);
+    let [zeros, ones] = [word & !marks, word | marks].map(|trial| match decoded(sheet, n, trial) {
+        (Ok(_), codeword) => codeword,
+        (refusal, _) => {
+            assert_eq!(refusal, Err(Error::NoneNear));
+            trial
+        }
+    });
+    match found {
+        Some(codeword) => {
+            assert!(zeros == codeword || ones == codeword);
+            (Ok((((codeword ^ word) & !marks).count_ones() as usize, codeword)), zeros, ones)
+        }
+        None => (Err(Error::NoneWithMarks), word_mask(&vec![0xaa; bytes(n)]), word_mask(&vec![0xaa; bytes(n)])),
+    }
+}
+
+#[test]
+fn every_word_with_every_marks() {
+    for (sheet, k, d) in [(sheet_h(), 4, 3), (sheet_e(3), 3, 4)] {
+        for (word, marks) in (0..128).flat_map(|word| (0..128).map(move |marks| (word, marks))) {
+            assert_eq!(decoded_marked(&sheet, 7, word, marks), with_marks(&sheet, k, 7, d, word, marks));
+        }
+    }
+    for (word, marks) in (0..1 << 15).step_by(1021).flat_map(|word| (0..1 << 15).step_by(509).map(move |marks| (word, marks))) {
+        assert_eq!(decoded_marked(&sheet_b(4), 15, word, marks), with_marks(&sheet_b(4), 7, 15, 5, word, marks));
+    }
+}
+
+#[test]
+fn no_mark() {
+    for (sheet, n) in [(sheet_h(), 7), (sheet_e(3), 7), (sheet_s(9), 17), (sheet_b(4), 15)] {
+        for word in (0..1 << n).step_by(if n == 7 { 1 } else { 41 }) {
+            let (answer, out) = decoded(&sheet, n, word);
+            let expected = match answer {
+                Ok(changed) => Ok((changed, out)),
+                Err(error) => {
+                    assert_eq!(error, Error::NoneNear);
+                    Err(Error::NoneWithMarks)
+                }
+            };
+            assert_eq!(decoded_marked(&sheet, n, word, 0), (expected, out, out));
+        }
+    }
+}
+
+/// 2·e + r is d - 1 = 4: one wrong place and two marked ones, whatever stands in them; four marked ones and no other is wrong.
+#[test]
+fn more_bad_places_than_t() {
+    let sent = encoded(&sheet_b(4), 7, 15, 0x55).1;
+    for marks in patterns(15, 2) {
+        for wrong in (0..15).map(|i| 1 << i).filter(|wrong| wrong & marks == 0) {
+            for word in [sent ^ wrong, sent ^ wrong ^ marks, (sent ^ wrong) & !marks, (sent ^ wrong) | marks] {
+                assert_eq!(decoded_marked(&sheet_b(4), 15, word, marks).0, Ok((1, sent)));
+            }
+        }
+    }
+    for marks in patterns(15, 4) {
+        for word in [sent, sent ^ marks, sent & !marks, sent | marks] {
+            assert_eq!(decoded_marked(&sheet_b(4), 15, word, marks).0, Ok((0, sent)));
+        }
+    }
+    // one more, and both buffers are as they were
+    let before = word_mask(&[0xaa; 2]);
+    for marks in patterns(15, 5) {
+        assert_eq!(decoded_marked(&sheet_b(4), 15, sent, marks), (Err(Error::NoneWithMarks), before, before));
+    }
+}
+
+/// Where both buffers hold the answer it is that of the zeros, and where the ones alone hold it that of the ones.
+#[test]
+fn which_buffer_is_shown() {
+    let (mut zeros, mut ones) = ([0xaa; 2], [0xaa; 2]);
+    let (at_zeros, at_ones) = (zeros.as_ptr(), ones.as_ptr());
+    for (marks, shown_at, held) in [
+        ([0b0000_0000, 0b0000_0000], at_zeros, [true, true]),
+        ([0b1100_0000, 0b0000_0000], at_zeros, [true, true]),
+        ([0b0111_1000, 0b0000_0000], at_zeros, [true, false]),
+        ([0b1000_0111, 0b0000_0000], at_ones, [false, true]),
+    ] {
+        let sent = [0b1000_1011, 0b1000_0000]; // sheet B: the generator
+        let (wrong, codeword) = decode_marked(&sheet_b(4), &sent, &marks, &mut zeros, &mut ones).unwrap();
+        assert_eq!((wrong, codeword, codeword.as_ptr()), (0, &sent[..], shown_at));
+        assert_eq!([zeros == sent, ones == sent], held);
+    }
+}
+
+#[test]
+fn refusals_of_marked_words() {
+    let h = sheet_h();
+    for (word, marks) in [(&[][..], &[0][..]), (&[0, 0], &[0]), (&[0], &[]), (&[0], &[0, 0]), (&[0x01], &[]), (&[], &[0x01])] {
+        let (mut zeros, mut ones) = ([0xaa], [0xaa]);
+        assert_eq!(decode_marked(&h, word, marks, &mut zeros, &mut ones), Err(Error::BufferLength));
+        assert_eq!((zeros, ones), ([0xaa], [0xaa]));
+    }
+    for (zeros_len, ones_len) in [(0, 1), (1, 0), (2, 1), (1, 2), (0, 0), (2, 2)] {
+        let (mut zeros, mut ones) = (vec![0xaa; zeros_len], vec![0xaa; ones_len]);
+        assert_eq!(decode_marked(&h, &[0x01], &[0x01], &mut zeros, &mut ones), Err(Error::BufferLength));
+        assert_eq!((zeros, ones), (vec![0xaa; zeros_len], vec![0xaa; ones_len]));
+    }
+    for (word, marks, error) in [
+        (0x01, 0x00, Error::SpareBit),
+        (0x00, 0x01, Error::SpareBit),
+        (0xff, 0xff, Error::SpareBit),
+        (0x80, 0x40, Error::NoneWithMarks),
+        (0x00, 0xe0, Error::NoneWithMarks),
+        (0x00, 0xfe, Error::NoneWithMarks),
+    ] {
+        let (mut zeros, mut ones) = ([0xaa], [0xaa]);
+        assert_eq!(decode_marked(&h, &[word], &[marks], &mut zeros, &mut ones), Err(error));
+        assert_eq!((zeros, ones), ([0xaa], [0xaa]));
+    }
+}
+
+#[test]
+fn parts_shown() {
+    let (zeros, ones) = ([1, 2, 3], [4, 5, 6, 7]);
+    for (n, length) in [(0, 0), (1, 1), (8, 1), (9, 2), (16, 2), (17, 3), (24, 3), (25, 3), (127, 3), (usize::MAX, 3)] {
+        let part = shown(0, n, &zeros, &ones);
+        assert_eq!((part, part.as_ptr()), (&zeros[..length], zeros.as_ptr()));
+        assert_eq!(shown(0, n, &zeros, &[]), &zeros[..length]);
+        assert!(shown(0, n, &[], &ones).is_empty());
+    }
+    for trial in [1, 2, 255, 256, 1 << 32, usize::MAX] {
+        for (n, length) in [(0, 0), (1, 1), (32, 4), (33, 4), (usize::MAX - 7, 4), (usize::MAX - 6, 4), (usize::MAX, 4)] {
+            let part = shown(trial, n, &zeros, &ones);
+            assert_eq!((part, part.as_ptr()), (&ones[..length], ones.as_ptr()));
+            assert_eq!(shown(trial, n, &[], &ones), &ones[..length]);
+            assert!(shown(trial, n, &zeros, &[]).is_empty());
+        }
+    }
+    assert!(shown(0, 15, &[], &[]).is_empty());
+}
+
 #[test]
 fn words_highest_bit_first_messages_lowest() {
     // sheet B: message 1 gives the generator, 1 + x^4 + x^6 + x^7 + x^8
@@ -226,13 +384,13 @@ fn read_back() {
 
 #[test]
 fn numbers() {
-    for number in 1..=14 {
+    for number in 1..=15 {
         let error = Error::from_number(number).unwrap();
         assert_eq!(error.number(), number);
         assert!(error.to_string().starts_with(&format!("refusal {number}: ")));
     }
     assert_eq!(Error::from_number(0), None);
-    assert_eq!(Error::from_number(15), None);
+    assert_eq!(Error::from_number(16), None);
     assert_eq!(Error::NoneNear.to_string(), "refusal 13: no codeword lies within t places of the word");
 }
 

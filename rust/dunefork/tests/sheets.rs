@@ -1,5 +1,6 @@
-//! Every sheet of the repository's folder sheets/: messages come back after 0 to t wrong places, as its file states t.
-use dunefork::{bytes, decode, encode, read, Error};
+//! Every sheet of the repository's folder sheets/: messages come back after 0 to t wrong places, and after e wrong and r marked ones with
+//! 2·e + r up to d - 1, as its file states d and t.
+use dunefork::{bytes, decode, decode_marked, encode, read, Error};
 use std::path::Path;
 
 struct Sheet {
@@ -7,6 +8,7 @@ struct Sheet {
     bytes: Vec<u8>,
     n: usize,
     k: usize,
+    d: usize,
     t: usize,
 }
 
@@ -15,7 +17,7 @@ fn parsed(name: String, text: &str) -> Sheet {
     let numbers: Vec<usize> = stated.split([' ', ',']).filter_map(|part| part.parse().ok()).collect();
     let digits = text.lines().filter(|line| !line.starts_with('#')).flat_map(str::split_whitespace);
     let bytes = digits.map(|byte| u8::from_str_radix(byte, 16).unwrap()).collect();
-    Sheet { name, bytes, n: numbers[0], k: numbers[1], t: numbers[3] }
+    Sheet { name, bytes, n: numbers[0], k: numbers[1], d: numbers[2], t: numbers[3] }
 }
 
 fn sheets() -> Vec<Sheet> {
@@ -40,6 +42,24 @@ impl Draw {
     }
 }
 
+impl Draw {
+    fn message(&mut self, k: usize) -> Vec<u8> {
+        let mut message = vec![0; bytes(k)];
+        for place in 0..k {
+            message[place / 8] |= (self.below(2) as u8) << (place % 8); // lowest bit first
+        }
+        message
+    }
+
+    /// Turns so many of the places, which are then no longer among them.
+    fn turn(&mut self, word: &mut [u8], places: &mut Vec<usize>, count: usize) {
+        for _ in 0..count {
+            let place = places.swap_remove(self.below(places.len()));
+            word[place / 8] ^= 1 << (7 - place % 8); // highest bit first
+        }
+    }
+}
+
 #[test]
 fn round_trips() {
     let sheets = sheets();
@@ -47,19 +67,12 @@ fn round_trips() {
     for sheet in sheets {
         let mut draw = Draw(1);
         for round in 0..20 {
-            let mut message = vec![0; bytes(sheet.k)];
-            for place in 0..sheet.k {
-                message[place / 8] |= (draw.below(2) as u8) << (place % 8); // lowest bit first
-            }
+            let message = draw.message(sheet.k);
             let mut word = vec![0; bytes(sheet.n)];
             encode(&sheet.bytes, &message, &mut word).unwrap_or_else(|error| panic!("{}: {error}", sheet.name));
             let errors = round % (sheet.t + 1);
             let mut received = word.clone();
-            let mut places: Vec<usize> = (0..sheet.n).collect();
-            for _ in 0..errors {
-                let place = places.swap_remove(draw.below(places.len()));
-                received[place / 8] ^= 1 << (7 - place % 8); // highest bit first
-            }
+            draw.turn(&mut received, &mut (0..sheet.n).collect(), errors);
             let mut right = vec![0; bytes(sheet.n)];
             assert_eq!(decode(&sheet.bytes, &received, &mut right), Ok(errors), "{}", sheet.name);
             assert_eq!(right, word, "{}", sheet.name);
@@ -69,6 +82,30 @@ fn round_trips() {
             if errors > 0 {
                 assert_eq!(read(&sheet.bytes, &received, &mut back), Err(Error::NoCodeword), "{}", sheet.name);
             }
+        }
+    }
+}
+
+#[test]
+fn marked_round_trips() {
+    for sheet in sheets() {
+        let mut draw = Draw(2);
+        for round in 0..40 {
+            let mut word = vec![0; bytes(sheet.n)];
+            encode(&sheet.bytes, &draw.message(sheet.k), &mut word).unwrap();
+            let marked = round % sheet.d;
+            let errors = (sheet.d - 1 - marked) / 2;
+            let (mut received, mut marks) = (word.clone(), vec![0; bytes(sheet.n)]);
+            let mut places: Vec<usize> = (0..sheet.n).collect();
+            draw.turn(&mut marks, &mut places, marked);
+            draw.turn(&mut received, &mut places, errors);
+            // what stands in the marked places: zeros, ones, or the wrong values
+            for (at, mark) in received.iter_mut().zip(&marks) {
+                *at = [*at & !mark, *at | mark, *at ^ mark][round % 3];
+            }
+            let (mut zeros, mut ones) = (vec![0xaa; bytes(sheet.n)], vec![0xaa; bytes(sheet.n)]);
+            let answer = decode_marked(&sheet.bytes, &received, &marks, &mut zeros, &mut ones);
+            assert_eq!(answer, Ok((errors, &word[..])), "{}", sheet.name);
         }
     }
 }

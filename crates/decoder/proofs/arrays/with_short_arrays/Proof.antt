@@ -1,7 +1,10 @@
 -- `decoder::arrays::with_short_arrays` meets its contract: arrays of 64 hold up to 63 terms, and all of them are 0.
 use native.Mathlib.Omega.{arith}
-use mathlib.Core.Path.{refl}
-use Rattle.decoder.proofs.Cleared.{lodged, again}
+use mathlib.Core.Path.{refl, ap}
+use borrow.Author.Needs.{needs}
+use Rattle.decoder.specs.Correct.{correctedAs}
+use Rattle.decoder.proofs.Cleared.{lodged}
+use Rattle.decoder.proofs.Exits.{received-held, received-far, received-repairable, received-done}
 use Rattle.decoder.proofs.arrays.with_short_arrays.Statement.{statement}
 use Rattle.decoder.proofs.arrays.with_short_arrays.Tie as tie
 
@@ -35,8 +38,12 @@ slice-aggregate-correct-9 c = refl
 slice-aggregate-correct-10 : tie.Need-slice-aggregate-correct-10
 slice-aggregate-correct-10 c = refl
 
+slice-aggregate-correct-11 : tie.Need-slice-aggregate-correct-11
+slice-aggregate-correct-11 c = refl
+
 correct-requires : tie.Need-correct-requires
-correct-requires c κs = let p = c .before .before .before .before .before .before .before .before .before .before .before .before .before .before .before .before .pre in lodged 32 128 64 (p .0) (p .1) (p .2) (p .3) (p .4) (omega (arith, p .5)) (omega (arith, p .5))
+correct-requires c κs = let p = c .before .before .before .before .before .before .before .before .before .before .before .before .before .before .before .before .pre in
+    lodged 32 128 64 (p .0) (received-held (p .2)) (omega (arith, p .4)) (p .1) (p .3) (omega (arith, p .4)) (omega (arith, p .4))
 
 enum-known-m : tie.Need-enum-known-m
 enum-known-m c = c .match .keys1
@@ -44,17 +51,23 @@ enum-known-m c = c .match .keys1
 enum-told : tie.Need-enum-told
 enum-told c = c .match .keys2
 
-same-length : tie.Need-same-length
-same-length c = c .before .before .before .before .before .before .before .before .before .before .before .before .before .before .correct .kept .1 .1 .1 .1 .1 .1 .1 .1 .1 .1 .1 .1 .1 .1 .1 .1 .1 .0
-
 returns : tie.Need-returns
-returns c = again (c .before .before .before .before .before .before .before .before .before .before .before .before .before .before .correct .ensures) (c .enum-told .given .1)
+returns c = received-far (c .before .before .before .before .before .before .before .before .before .before .before .before .before .before .before .before .before .before .before .before .before .before .before .before .before .before .before .before .before .before .pre .2) (c .before .before .before .before .before .before .before .before .before .before .before .before .before .correct .ensures) (ap correctedAs (c .enum-told .given .1))
 
-same-length-2 : tie.Need-same-length-2
-same-length-2 c = c .before .before .before .before .before .before .before .before .before .before .before .before .before .before .before .correct .kept .1 .1 .1 .1 .1 .1 .1 .1 .1 .1 .1 .1 .1 .1 .1 .1 .1 .0
+slice-aggregate-repair : tie.Need-slice-aggregate-repair
+slice-aggregate-repair c = search needs
+
+repair-requires : tie.Need-repair-requires
+repair-requires c κs = let p = c .before .before .before .before .before .before .before .before .before .before .before .before .before .before .before .before .before .before .before .before .before .before .before .before .before .before .before .before .before .before .before .before .before .pre in
+    received-repairable (p .2) (c .before .before .before .before .before .before .before .before .before .before .before .before .before .before .before .before .correct .ensures) (ap correctedAs (c .before .before .before .m .given .1)) (omega (arith, p .4))
+
+same-length : tie.Need-same-length
+same-length c = c .before .before .repair .kept .1 .1 .1 .0
 
 returns-2 : tie.Need-returns-2
-returns-2 c = again (c .before .before .before .before .before .before .before .before .before .before .before .before .before .before .before .correct .ensures) (c .before .m .given .1)
+returns-2 c = let p = c .before .before .before .before .before .before .before .before .before .before .before .before .before .before .before .before .before .before .before .before .before .before .before .before .before .before .before .before .before .before .before .before .before .before .before .before .pre in
+    received-done (p .2) (c .before .before .before .before .before .before .before .before .before .before .before .before .before .before .before .before .before .before .before .correct .ensures) (p .4) (ap correctedAs (c .before .before .before .before .before .before .m .given .1)) (c .before .before .repair .ensures) (c .before .before .repair .kept .1 .1 .1 .0)
+    (λ i. omega (arith, c .slice-known2 .given i))
 
 pub with-short-arrays-spec : {M : Type 1} → statement M
 with-short-arrays-spec =
@@ -70,10 +83,12 @@ with-short-arrays-spec =
     slice-aggregate-correct-8
     slice-aggregate-correct-9
     slice-aggregate-correct-10
+    slice-aggregate-correct-11
     correct-requires
     enum-known-m
     enum-told
-    same-length
     returns
-    same-length-2
+    slice-aggregate-repair
+    repair-requires
+    same-length
     returns-2)

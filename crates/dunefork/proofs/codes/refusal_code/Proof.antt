@@ -51,6 +51,9 @@ enum-told-13 c = search needs
 enum-told-14 : tie.Need-enum-told-14
 enum-told-14 c = search needs
 
+enum-told-15 : tie.Need-enum-told-15
+enum-told-15 c = search needs
+
 returns : tie.Need-returns
 returns c = sym (ap (λ (q : Refusal). negℤ (pos (numberOf q))) (c .enum-told .given .1))
 
@@ -93,6 +96,9 @@ returns-13 c = sym (ap (λ (q : Refusal). negℤ (pos (numberOf q))) (c .enum-to
 returns-14 : tie.Need-returns-14
 returns-14 c = sym (ap (λ (q : Refusal). negℤ (pos (numberOf q))) (c .enum-told14 .given .1))
 
+returns-15 : tie.Need-returns-15
+returns-15 c = sym (ap (λ (q : Refusal). negℤ (pos (numberOf q))) (c .enum-told15 .given .1))
+
 pub refusal-code-spec : {M : Type 1} → statement M
 refusal-code-spec =
     tie.close
@@ -111,6 +117,7 @@ refusal-code-spec =
     enum-told-12
     enum-told-13
     enum-told-14
+    enum-told-15
     returns
     returns-2
     returns-3
@@ -124,4 +131,5 @@ refusal-code-spec =
     returns-11
     returns-12
     returns-13
-    returns-14)
+    returns-14
+    returns-15)

@@ -92,15 +92,15 @@ extern "C" {
  * library take for themselves is not counted. tools/stack measures the archive and writes these lines: docs/STACK.md. */
 #define DUNEFORK_ENCODE_STACK 1628
 #define DUNEFORK_READ_STACK 1628
-#define DUNEFORK_DECODE_STACK 79872
-#define DUNEFORK_DECODE_STACK_SMALL 33792 /* on a sheet whose s, the third number of its listing, is at most 8 */
-#define DUNEFORK_DECODE_STACK_SHORT 6912 /* on such a sheet whose certificate at work has fewer than 64 terms (L) */
-#define DUNEFORK_DECODE_STACK_LEAST 4608 /* on such a sheet whose s is at most 6 */
-#define DUNEFORK_DECODE_MARKED_STACK 0
-#define DUNEFORK_DECODE_MARKED_STACK_SMALL 0 /* on the same sheets as decode's: s at most 8, */
-#define DUNEFORK_DECODE_MARKED_STACK_SHORT 0 /* and fewer than 64 terms, */
-#define DUNEFORK_DECODE_MARKED_STACK_LEAST 0 /* and s at most 6 */
-#define DUNEFORK_SHOWN_LENGTH_STACK 0
+#define DUNEFORK_DECODE_STACK 79904
+#define DUNEFORK_DECODE_STACK_SMALL 33840 /* on a sheet whose s, the third number of its listing, is at most 8 */
+#define DUNEFORK_DECODE_STACK_SHORT 6976 /* on such a sheet whose certificate at work has fewer than 64 terms (L) */
+#define DUNEFORK_DECODE_STACK_LEAST 4656 /* on such a sheet whose s is at most 6 */
+#define DUNEFORK_DECODE_MARKED_STACK 80032
+#define DUNEFORK_DECODE_MARKED_STACK_SMALL 33968 /* on the same sheets as decode's: s at most 8, */
+#define DUNEFORK_DECODE_MARKED_STACK_SHORT 7104 /* and fewer than 64 terms, */
+#define DUNEFORK_DECODE_MARKED_STACK_LEAST 4784 /* and s at most 6 */
+#define DUNEFORK_SHOWN_LENGTH_STACK 8
 #define DUNEFORK_CARD_STACK 1820
 
 /* What a call returns where it refuses. The conditions are tried in this order; those of certificates (RANGE to TERM) for one

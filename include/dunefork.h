@@ -54,6 +54,17 @@
  *         const uint8_t *right = dunefork_shown((size_t)answer % 2, zeros, ones);  // the codeword: DUNEFORK_BYTES(15) bytes
  *     }
  *
+ * Shortened codes. Where readings are small, fewer bits need be sent. With m from 1 to k - 1, the top m message places are 0 and the top
+ * m places of a word are not sent: a message has k - m places and a word n - m, and as many wrong places are corrected as before.
+ * dunefork_encode_short, dunefork_read_short and dunefork_decode_short take m after the sheet (examples/c/shortened.c has it in full).
+ * Spare bits are then those from place n - m of a word on, and from place k - m of a message. With m = 3 on the sheet above:
+ *
+ *     uint8_t message[DUNEFORK_BYTES(7 - 3)] = {0x05}, word[DUNEFORK_BYTES(15 - 3)], right[DUNEFORK_BYTES(15 - 3)];
+ *
+ *     dunefork_encode_short(sheet, sizeof sheet, 3, message, sizeof message, word, sizeof word);  // returns 0
+ *     int32_t changed = dunefork_decode_short(sheet, sizeof sheet, 3, word, sizeof word, right, sizeof right);  // returns 0, 1 or 2
+ *     if (changed >= 0) dunefork_read_short(sheet, sizeof sheet, 3, right, sizeof right, message, sizeof message);  // returns 0
+ *
  * The sheet. 16-bit numbers have their low byte first. The folder sheets/ has some; docs/SHEETS.md says how to write one.
  *     bytes 0-1  length of the whole sheet, 10 + R + 8 C
  *     byte  2    n, odd, 3 to 127
@@ -89,22 +100,24 @@ extern "C" {
 #define DUNEFORK_CARD_BYTES 1024
 
 /* Bytes of stack that a call takes, at most and for any input, its return address included; what memset and memmove of your C
- * library take for themselves is not counted. tools/stack measures the archive and writes these lines: docs/STACK.md. */
-#define DUNEFORK_ENCODE_STACK 1628
-#define DUNEFORK_READ_STACK 1628
-#define DUNEFORK_DECODE_STACK 79904
-#define DUNEFORK_DECODE_STACK_SMALL 33840 /* on a sheet whose s, the third number of its listing, is at most 8 */
-#define DUNEFORK_DECODE_STACK_SHORT 6976 /* on such a sheet whose certificate at work has fewer than 64 terms (L) */
-#define DUNEFORK_DECODE_STACK_LEAST 4656 /* on such a sheet whose s is at most 6 */
-#define DUNEFORK_DECODE_MARKED_STACK 80032
-#define DUNEFORK_DECODE_MARKED_STACK_SMALL 33968 /* on the same sheets as decode's: s at most 8, */
+ * library take for themselves is not counted. Those of encode, read and decode hold for dunefork_encode_short, dunefork_read_short and
+ * dunefork_decode_short too. tools/stack measures the archive and writes these lines: docs/STACK.md. */
+#define DUNEFORK_ENCODE_STACK 1652
+#define DUNEFORK_READ_STACK 1652
+#define DUNEFORK_DECODE_STACK 80096
+#define DUNEFORK_DECODE_STACK_SMALL 34016 /* on a sheet whose s, the third number of its listing, is at most 8 */
+#define DUNEFORK_DECODE_STACK_SHORT 7120 /* on such a sheet whose certificate at work has fewer than 64 terms (L) */
+#define DUNEFORK_DECODE_STACK_LEAST 4832 /* on such a sheet whose s is at most 6 */
+#define DUNEFORK_DECODE_MARKED_STACK 80080
+#define DUNEFORK_DECODE_MARKED_STACK_SMALL 34000 /* on the same sheets as decode's: s at most 8, */
 #define DUNEFORK_DECODE_MARKED_STACK_SHORT 7104 /* and fewer than 64 terms, */
-#define DUNEFORK_DECODE_MARKED_STACK_LEAST 4784 /* and s at most 6 */
+#define DUNEFORK_DECODE_MARKED_STACK_LEAST 4816 /* and s at most 6 */
 #define DUNEFORK_SHOWN_LENGTH_STACK 8
 #define DUNEFORK_CARD_STACK 1820
 
-/* What a call returns where it refuses. The conditions are tried in this order; those of certificates (RANGE to TERM) for one
- * certificate after the other. examples/c/refusals.c draws each of them, docs/SHEETS.md says what to do about it. */
+/* What a call returns where it refuses. The conditions are tried in this order, SHORTENING between TERM and BUFFER_LENGTH; those of
+ * certificates (RANGE to TERM) for one certificate after the other. examples/c/refusals.c draws each of them, docs/SHEETS.md says what
+ * to do about it. */
 #define DUNEFORK_SHEET_LENGTH (-1)    /* the sheet is under 10 or over 74 bytes, or states another length */
 #define DUNEFORK_CODE_LENGTH (-2)     /* n is even, below 3 or above 127 */
 #define DUNEFORK_FIELD_DEGREE (-3)    /* n divides no 2^s - 1 with s up to 12 */
@@ -121,10 +134,11 @@ extern "C" {
 #define DUNEFORK_BUFFER_LENGTH (-11)  /* an input, `out`, `zeros` or `ones` has not its exact length */
 #define DUNEFORK_SPARE_BIT (-12)      /* a spare bit of an input is 1: a low one in the last byte of a word or of marks, a high one in
                                          a message's */
-#define DUNEFORK_NONE_NEAR (-13)      /* decoding: no codeword within t places of the word */
+#define DUNEFORK_NONE_NEAR (-13)      /* decoding: no codeword, of a shortened code no shortened one, within t places of the word */
 #define DUNEFORK_NO_CODEWORD (-14)    /* reading out: the word is no codeword */
 #define DUNEFORK_NONE_WITH_MARKS (-15) /* decoding a marked word: no codeword differs from it in e unmarked places with 2 e + r at most
                                          d - 1, where r places are marked */
+#define DUNEFORK_SHORTENING (-16)     /* a shortened code: m is 0, or not below k */
 
 /* Encodes a message of exactly DUNEFORK_BYTES(k) bytes into the codeword in out, exactly DUNEFORK_BYTES(n) bytes:
  * message place i stands in place n - k + i, the places below hold the checks. Returns 0, or a refusal: -1 to -12. */
@@ -169,6 +183,30 @@ static inline const uint8_t *dunefork_shown(size_t trial, const uint8_t *zeros, 
  * written; trial and n may be any numbers, however large, and the buffers of any length. After an answer of
  * dunefork_decode_marked, with the sheet's n, it is DUNEFORK_BYTES(n). */
 size_t dunefork_shown_length(size_t trial, size_t n, const uint8_t *zeros, size_t zeros_len, const uint8_t *ones, size_t ones_len);
+
+/* The calls for a shortened code: the top m message places are 0, and the top m places of a word are not sent. m may be any number; it is
+ * refused with DUNEFORK_SHORTENING, after the sheet and before anything else is looked at, where it is 0 or not below k. A shortened
+ * codeword is a codeword of n places whose top m places, n - m to n - 1, are 0; its bytes are those of the n - m places below. */
+
+/* Encodes a message of exactly DUNEFORK_BYTES(k - m) bytes into the shortened codeword in out, exactly DUNEFORK_BYTES(n - m) bytes: that of
+ * the message with m places more, which are 0. Message place i stands in place n - k + i, the places below hold the checks. Returns 0, or
+ * a refusal: -1 to -12 or -16. */
+int32_t dunefork_encode_short(const uint8_t *sheet, size_t sheet_len, size_t m, const uint8_t *message, size_t message_len, uint8_t *out,
+                              size_t out_len);
+
+/* Reads the message out of a shortened codeword of exactly DUNEFORK_BYTES(n - m) bytes into out, exactly DUNEFORK_BYTES(k - m) bytes.
+ * With a sheet and an m that are accepted, a word of the right length without spare bits is refused, with DUNEFORK_NO_CODEWORD, exactly
+ * where it is no shortened codeword. Returns 0, or a refusal: -1 to -12, -14 or -16. */
+int32_t dunefork_read_short(const uint8_t *sheet, size_t sheet_len, size_t m, const uint8_t *word, size_t word_len, uint8_t *out,
+                            size_t out_len);
+
+/* Corrects a received word of exactly DUNEFORK_BYTES(n - m) bytes: the shortened codeword that differs from it in at most t places goes
+ * into out, exactly DUNEFORK_BYTES(n - m) bytes, and the number of places in which the two differ is returned, 0 to t, with t as for
+ * dunefork_decode. There is never more than one. With a sheet and an m that are accepted, a word of the right length without spare
+ * bits is refused, with DUNEFORK_NONE_NEAR, exactly where there is none: also where a codeword that has a 1 in a place that is not sent
+ * is within t places. Returns 0 to t, or a refusal: -1 to -13 or -16. */
+int32_t dunefork_decode_short(const uint8_t *sheet, size_t sheet_len, size_t m, const uint8_t *word, size_t word_len, uint8_t *out,
+                              size_t out_len);
 
 /* Tells what a sheet amounts to: its listing, the program linkcard's text, into out, exactly DUNEFORK_CARD_BYTES bytes. The lines
  * are "code N K S", S being the field's degree, "zeros ..", "generator ..", for each certificate C "cert C terms L distance D", and

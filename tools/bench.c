@@ -2,9 +2,10 @@
  *
  * Each line of standard input is a code: `HEX K T WORDS WEIGHT ..`, that is the sheet's bytes, k, t, how many words to draw for
  * each weight, and the weights: numbers of errors, or -1 for words drawn with no codeword in mind. After them may stand
- * `marked ERRORS MARKS ..`: pairs of numbers of errors and of marked places beside these, for words to decode with marks. The peers
- * have the words of the first line. Written are `LINE WHO WHAT WEIGHT NANOSECONDS`, the processor's time for one call: the mean over the
- * words of a weight, the least of the rounds, WHAT being `marked-MARKS` where there are marks to look at; and counts of words,
+ * `marked ERRORS MARKS ..`: pairs of numbers of errors and of marked places beside these, for words to decode with marks; and then
+ * `short M ..`, numbers of places to shorten the code by. The peers have the words of the first line. Written are `LINE WHO WHAT WEIGHT
+ * NANOSECONDS`, the processor's time for one call: the mean over the words of a weight, the least of the rounds, WHAT being `marked-MARKS`
+ * where there are marks to look at, and `encode-short-M`, `read-short-M` or `decode-short-M` for a shortened code; and counts of words,
  * `LINE ours refused WEIGHT COUNT` and `LINE WHO wrong WEIGHT COUNT`, a peer's wrong answers. In each round every code, weight and
  * decoder has its turn, so that a slow moment of the machine hits all.
  *
@@ -20,6 +21,7 @@
 #define CODES 64
 #define WEIGHTS 16
 #define KINDS 8
+#define SHORTENINGS 8
 #define LEAST_SECONDS 0.0003 /* a batch that takes less is repeated */
 
 /* What was sent, what arrived and what came out. */
@@ -41,6 +43,14 @@ struct kind {
     double decode;
 };
 
+/* The code shortened by m, with words of no errors and of t. */
+struct shortening {
+    int m;
+    size_t word_len, message_len;
+    struct word *words[2];
+    double encode, read, decode[2];
+};
+
 static const struct peer *const peers[] = {
 #ifdef WITH_LINUX
     &linux_peer,
@@ -58,8 +68,9 @@ struct code {
     int n, k, t, weights, weight[WEIGHTS];
     struct word *words[WEIGHTS];
     double judge, encode, read, decode[WEIGHTS], peer_encode[PEERS], peer_decode[PEERS][WEIGHTS];
-    int refused[WEIGHTS], wrong[PEERS][WEIGHTS], kinds;
+    int refused[WEIGHTS], wrong[PEERS][WEIGHTS], kinds, shortenings;
     struct kind kind[KINDS];
+    struct shortening shortening[SHORTENINGS];
 };
 
 static struct code codes[CODES];
@@ -68,6 +79,7 @@ static struct code codes[CODES];
 static struct code *c;
 static struct word *w;
 static struct marked_word *marked;
+static struct shortening *shortened;
 
 static void fail(const char *who, const char *what, int weight) {
     fprintf(stderr, "bench: %s: %s (length %d, %d errors)\n", who, what, c ? c->n : 0, weight);
@@ -92,16 +104,16 @@ static void draw_word(uint8_t *word) {
 }
 
 /* Place i of a message has weight 2^(i mod 8) in byte i div 8. */
-static void draw_message(uint8_t *message) {
-    for (int i = 0; i < c->k; i++)
+static void draw_message(uint8_t *message, int places) {
+    for (int i = 0; i < places; i++)
         if (drawn() & 1)
             message[i / 8] |= (uint8_t)(1 << i % 8);
 }
 
-/* Flips so many places of a word where it is as another, and where a third has a 0. */
-static void flip_places(uint8_t *word, const uint8_t *as, const uint8_t *without, int places) {
+/* Flips so many of a word's n places where it is as another, and where a third has a 0. */
+static void flip_places(uint8_t *word, int n, const uint8_t *as, const uint8_t *without, int places) {
     while (places > 0) {
-        size_t place = drawn() % (uint64_t)c->n;
+        size_t place = drawn() % (uint64_t)n;
         if (bench_place(word, place) == bench_place(as, place) && !bench_place(without, place)) {
             bench_flip(word, place);
             places--;
@@ -113,7 +125,7 @@ static const uint8_t nowhere[DUNEFORK_WORD_MAX];
 
 /* The word is all zeros before. */
 static void draw(struct word *x, int weight) {
-    draw_message(x->message);
+    draw_message(x->message, c->k);
     if (dunefork_encode(c->sheet, c->sheet_len, x->message, c->message_len, x->codeword, c->word_len) != 0)
         fail("ours", "the sheet or a message is refused", weight);
     if (weight < 0) {
@@ -121,15 +133,15 @@ static void draw(struct word *x, int weight) {
         return;
     }
     memcpy(x->received, x->codeword, sizeof x->received);
-    flip_places(x->received, x->codeword, nowhere, weight);
+    flip_places(x->received, c->n, x->codeword, nowhere, weight);
 }
 
 /* In marked places stands anything. */
 static void draw_marked(struct marked_word *x, const struct kind *kind) {
     uint8_t anything[DUNEFORK_WORD_MAX] = {0};
     draw(&x->word, 0);
-    flip_places(x->marks, nowhere, nowhere, kind->marks);
-    flip_places(x->word.received, x->word.codeword, x->marks, kind->errors);
+    flip_places(x->marks, c->n, nowhere, nowhere, kind->marks);
+    flip_places(x->word.received, c->n, x->word.codeword, x->marks, kind->errors);
     draw_word(anything);
     for (size_t i = 0; i < c->word_len; i++)
         x->word.received[i] = (uint8_t)((x->word.received[i] & ~x->marks[i]) | (anything[i] & x->marks[i]));
@@ -142,6 +154,30 @@ static void draw_kinds(void) {
             fail("input", "no memory", 0);
         for (size_t i = 0; i < c->count; i++)
             draw_marked(&kind->words[i], kind);
+    }
+}
+
+/* The codeword of a message whose top m places are 0, by the call for the whole code: its bytes are those of the shortened one, and then
+ * zeros. */
+static void draw_shortened(struct word *x, int m, int weight) {
+    draw_message(x->message, c->k - m);
+    if (dunefork_encode(c->sheet, c->sheet_len, x->message, c->message_len, x->codeword, c->word_len) != 0)
+        fail("ours", "the sheet or a message is refused", weight);
+    memcpy(x->received, x->codeword, sizeof x->received);
+    flip_places(x->received, c->n - m, x->codeword, nowhere, weight);
+}
+
+static void draw_shortenings(void) {
+    for (struct shortening *s = c->shortening; s < c->shortening + c->shortenings; s++) {
+        s->word_len = DUNEFORK_BYTES(c->n - s->m);
+        s->message_len = DUNEFORK_BYTES(c->k - s->m);
+        for (int j = 0; j < 2; j++) {
+            s->words[j] = calloc(c->count, sizeof *s->words[j]);
+            if (!s->words[j])
+                fail("input", "no memory", 0);
+            for (size_t i = 0; i < c->count; i++)
+                draw_shortened(&s->words[j][i], s->m, j ? c->t : 0);
+        }
     }
 }
 
@@ -254,6 +290,48 @@ static void time_our_marked(struct kind *kind) {
 }
 #endif
 
+/* Archives from before 2026-06 have none of these. */
+#ifdef WITH_SHORT
+static void our_encode_short(size_t i) {
+    w[i].reply = dunefork_encode_short(c->sheet, c->sheet_len, (size_t)shortened->m, w[i].message, shortened->message_len, w[i].out,
+                                       shortened->word_len);
+}
+
+static void our_read_short(size_t i) {
+    w[i].reply = dunefork_read_short(c->sheet, c->sheet_len, (size_t)shortened->m, w[i].codeword, shortened->word_len, w[i].out,
+                                     shortened->message_len);
+}
+
+static void our_decode_short(size_t i) {
+    w[i].reply = dunefork_decode_short(c->sheet, c->sheet_len, (size_t)shortened->m, w[i].received, shortened->word_len, w[i].out,
+                                       shortened->word_len);
+}
+
+static void time_our_shortened(struct shortening *s) {
+    shortened = s;
+    for (int j = 0; j < 2; j++) {
+        w = s->words[j];
+        keep_least(&s->decode[j], our_decode_short);
+        for (size_t i = 0; i < c->count; i++)
+            if (w[i].reply != (j ? c->t : 0) || memcmp(w[i].out, w[i].codeword, s->word_len) != 0)
+                fail("ours", "a shortened word is decoded wrongly", j ? c->t : 0);
+    }
+    w = s->words[0];
+    keep_least(&s->encode, our_encode_short);
+    for (size_t i = 0; i < c->count; i++)
+        if (w[i].reply != 0 || memcmp(w[i].out, w[i].codeword, s->word_len) != 0)
+            fail("ours", "a message of a shortened code is encoded wrongly", 0);
+    keep_least(&s->read, our_read_short);
+    for (size_t i = 0; i < c->count; i++)
+        if (w[i].reply != 0 || memcmp(w[i].out, w[i].message, s->message_len) != 0)
+            fail("ours", "a message of a shortened code is read wrongly", 0);
+}
+#else
+static void time_our_shortened(struct shortening *s) {
+    shortened = s;
+}
+#endif
+
 /* ---- peers */
 
 /* A peer's answer is held to ours, which was found right just before. */
@@ -293,6 +371,8 @@ static void one_round(int with_peers) {
     }
     for (int j = 0; j < c->kinds; j++)
         time_our_marked(&c->kind[j]);
+    for (int j = 0; j < c->shortenings; j++)
+        time_our_shortened(&c->shortening[j]);
     w = c->words[0];
     time_our_rest();
     for (size_t p = 0; with_peers && peers[p]; p++)
@@ -314,6 +394,13 @@ static void tell(int line) {
     for (const struct kind *kind = c->kind; kind < c->kind + c->kinds; kind++)
         if (kind->decode > 0)
             printf("%d ours marked-%d %d %.1f\n", line, kind->marks, kind->errors, kind->decode * 1e9);
+    for (const struct shortening *s = c->shortening; s < c->shortening + c->shortenings; s++)
+        if (s->encode > 0) {
+            printf("%d ours encode-short-%d 0 %.1f\n", line, s->m, s->encode * 1e9);
+            printf("%d ours read-short-%d 0 %.1f\n", line, s->m, s->read * 1e9);
+            printf("%d ours decode-short-%d 0 %.1f\n", line, s->m, s->decode[0] * 1e9);
+            printf("%d ours decode-short-%d %d %.1f\n", line, s->m, c->t, s->decode[1] * 1e9);
+        }
     for (size_t p = 0; line == 0 && peers[p]; p++) {
         told(line, peers[p]->name, "encode", 0, c->peer_encode[p]);
         for (int j = 0; j < c->weights; j++) {
@@ -352,6 +439,11 @@ static int take_line(void) {
     for (at += taken; taken && c->kinds < KINDS; at += taken, c->kinds++)
         if (sscanf(at, "%d %d%n", &c->kind[c->kinds].errors, &c->kind[c->kinds].marks, &taken) != 2)
             break;
+    taken = 0;
+    sscanf(at, " short%n", &taken);
+    for (at += taken; taken && c->shortenings < SHORTENINGS; at += taken, c->shortenings++)
+        if (sscanf(at, "%d%n", &c->shortening[c->shortenings].m, &taken) != 1)
+            break;
     return 1;
 }
 
@@ -362,9 +454,11 @@ int main(int argc, char **argv) {
             fail(peers[p]->name, "its code is another", 0);
     for (c = codes; lines < CODES && take_line(); c++)
         lines++;
-    /* after all others, which marks do not change */
+    /* after all others, which marks and shortenings do not change */
     for (c = codes; c < codes + lines; c++)
         draw_kinds();
+    for (c = codes; c < codes + lines; c++)
+        draw_shortenings();
     for (int round = 0; round < rounds; round++)
         for (int line = 0; line < lines; line++) {
             c = &codes[line];

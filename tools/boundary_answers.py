@@ -1,5 +1,6 @@
-# Calls at and on either side of every boundary that document 01 and request 2026-05 of document 02 have, and with two refusals true at
-# once, and what they are to answer by tools/second_reading.py. tools/answers.py puts them together with the other calls.
+# Calls at and on either side of every boundary that document 01 and requests 2026-05 and 2026-06 of document 02 have, and with two
+# refusals true at once, and what they are to answer by tools/second_reading.py. tools/answers.py puts them together with the other calls,
+# and boundary_shortened.py has those of 2026-06.
 #
 # A definition that is wrong at a boundary, with code that fits it, passes every proof; these calls stand against it. A sheet is as
 # right as it can be but for what it is here for, so that only the condition in question tells. Two things no sheet can be: one of 74
@@ -10,6 +11,7 @@ from functools import lru_cache
 
 sys.dont_write_bytecode = True
 import second_reading as reading
+from boundary_shortened import refused_sheet, short_questions
 from entry_answers import certificate, changed, sheet
 
 
@@ -263,6 +265,8 @@ def sheet_calls():
                     yield made, kind, given, space
                 if group == pairs:
                     yield made, 6, marked_given(given, given[1:], b, space), 0
+                    for call in refused_sheet(given, space, i):
+                        yield made, *call
     for made in lengths_of_words():
         yield made, 0, b'', 0
 
@@ -390,6 +394,7 @@ def questions():
         for call in [*marked_calls(made), *(marked_refusals(made) if made in (H, E, S, B) else ())]:
             yield made, *call
     yield from shown_calls()
+    yield from short_questions()
     yield from card_calls()
 
 

@@ -1,9 +1,9 @@
-/* Random calls of all entries of the library, each held to the reference of fuzz_reference.h, fuzz_listing.h and fuzz_marked.h: the
- * reply, every byte of the buffers, and that no byte beside the lent ones has changed. tools/fuzz builds and runs it.
+/* Random calls of all entries of the library, each held to the reference of fuzz_reference.h, fuzz_listing.h, fuzz_marked.h and
+ * fuzz_shortened.h: the reply, every byte of the buffers, and that no byte beside the lent ones has changed. tools/fuzz builds and runs it.
  *
  *     fuzz seed calls [fault]
  *
- * A seed gives the same calls everywhere, and the checksum printed is that of all replies and buffers. With a fault, 1 to 28, a
+ * A seed gives the same calls everywhere, and the checksum printed is that of all replies and buffers. With a fault, 1 to 39, a
  * wrong library is played, and the run must end in a difference: that shows that the harness sees such a thing.
  *
  * Every buffer has its exact length. Three in four lie at the end or the start of a page between two pages that cannot be touched,
@@ -20,8 +20,10 @@
 #include <unistd.h>
 
 enum { PAGE = 4096, SHEET = 0, INPUT = 1, OUTPUT = 2, ZEROS = OUTPUT, ONES = 3, MARKS = 4, BUFFERS = 5 };
-enum { ENCODE, READ, DECODE, CARD, MARKED, SHOWN, ENTRIES };
-static const char *const entry_name[ENTRIES] = {"encode", "read", "decode", "card", "decode_marked", "shown_length"};
+enum { ENCODE, READ, DECODE, CARD, MARKED, ENCODE_SHORT, READ_SHORT, DECODE_SHORT, SHOWN, ENTRIES };
+static const char *const entry_name[ENTRIES] = {"encode",       "read",       "decode",       "card",        "decode_marked",
+                                                "encode_short", "read_short", "decode_short", "shown_length"};
+enum { LAST_REFUSAL = 16 };
 
 /* ---- the draw. No expression draws twice in an order that C leaves open: a seed gives the same calls with every compiler. */
 static uint64_t state;
@@ -117,12 +119,12 @@ static double stored_max, tried_max;
 static struct {
     int entry;
     const uint8_t *input, *marks;
-    size_t input_length, output_length, marks_length, second_length;
+    size_t input_length, output_length, marks_length, second_length, m;
 } now;
 
 static int fault;
 static uint64_t checksum = 14695981039346656037u, calls, refused_sheets, accepted_sheets;
-static uint64_t count_refused[ENTRIES][16], count_done[ENTRIES], count_changed[PLACES + 1], count_decided[3];
+static uint64_t count_refused[ENTRIES][LAST_REFUSAL + 1], count_done[ENTRIES], count_changed[PLACES + 1], count_decided[3];
 enum { BY_SEARCH, BY_BOTH, BY_MAKING, BY_PROPERTY_CHANGED, BY_PROPERTY_13, HOW };
 static const char *const how_name[HOW] = {
     "held to a search", "held to two searches", "known from how the word was made",
@@ -142,6 +144,7 @@ static void differ(const char *what) {
     show(stderr, "sheet", sheet, sheet_length);
     show(stderr, "input", now.input, now.input_length);
     if (now.entry == MARKED) show(stderr, "marks", now.marks, now.marks_length);
+    if (now.entry >= ENCODE_SHORT && now.entry <= DECODE_SHORT) fprintf(stderr, "m %zu\n", now.m);
     fprintf(stderr, "output of %zu bytes", now.output_length);
     if (now.entry == MARKED) fprintf(stderr, ", and of %zu for the ones", now.second_length);
     fprintf(stderr, "\n");
@@ -200,7 +203,7 @@ static int message_spare_in_word(int32_t reply) {
 static int32_t meddled(int32_t reply) {
     uint8_t *out = lent[OUTPUT].at;
     size_t length = lent[OUTPUT].length;
-    int page = !lent[OUTPUT].heap && length > 0 && lent[OUTPUT].offset > 0;
+    int page = !lent[OUTPUT].heap && length > 0 && lent[OUTPUT].offset > 0, gives_message = now.entry == READ || now.entry == READ_SHORT;
     switch (calls < 5000 ? 0 : fault) {
     case 1: if (page) out[-1] ^= 1; break;                                        /* a byte before the buffer */
     case 2: if (page) (void)*(volatile uint8_t *)(lent[OUTPUT].page + PAGE); break; /* read beyond the page */
@@ -210,8 +213,8 @@ static int32_t meddled(int32_t reply) {
     case 6: if (lent[INPUT].length) lent[INPUT].at[0] ^= 1; break;                /* the input written to */
     case 7: if (reply == -13 && length) return memcpy(out, lent[INPUT].at, length), 0; break; /* the word as received */
     case 8: if (reply == -12) return -11; break;                                  /* another number */
-    case 9: if (reply >= 0 && now.entry != READ && now.entry != CARD) turn_bytes_round(out, length); break;  /* a word laid out as a message */
-    case 10: if (reply >= 0 && now.entry == READ) turn_bytes_round(out, length); break; /* a message laid out as a word */
+    case 9: if (reply >= 0 && !gives_message && now.entry != CARD) turn_bytes_round(out, length); break; /* a word laid out as a message */
+    case 10: if (reply >= 0 && gives_message) turn_bytes_round(out, length); break; /* a message laid out as a word */
     case 11: if (message_spare_in_word(reply)) return -12; break;                 /* a word's spare bits sought as a message's */
     case 12: if (now.entry == CARD && reply > 12) out[reply - 2] = '0'; break;    /* the first certificate named as the working one */
     case 13: if (now.entry == CARD && reply >= 0) return reply + 1; break;        /* a length one too large */
@@ -219,7 +222,7 @@ static int32_t meddled(int32_t reply) {
     return reply;
 }
 
-static int32_t meddled_marked(int32_t reply);
+static int32_t meddled_marked(int32_t reply), meddled_short(int32_t reply);
 
 static int32_t called(void) {
     const struct lent *s = &lent[SHEET], *i = &lent[INPUT], *o = &lent[OUTPUT], *m = &lent[MARKS], *second = &lent[ONES];
@@ -233,10 +236,17 @@ static int32_t called(void) {
         reply = dunefork_decode(s->at, s->length, i->at, i->length, o->at, o->length);
     else if (now.entry == CARD)
         reply = dunefork_card(s->at, s->length, o->at, o->length);
+    else if (now.entry == ENCODE_SHORT)
+        reply = dunefork_encode_short(s->at, s->length, now.m, i->at, i->length, o->at, o->length);
+    else if (now.entry == READ_SHORT)
+        reply = dunefork_read_short(s->at, s->length, now.m, i->at, i->length, o->at, o->length);
+    else if (now.entry == DECODE_SHORT)
+        reply = dunefork_decode_short(s->at, s->length, now.m, i->at, i->length, o->at, o->length);
     else
         reply = dunefork_decode_marked(s->at, s->length, i->at, i->length, m->at, m->length, o->at, o->length, second->at, second->length);
     library_seconds += seconds() - start;
     if (fault && now.entry == MARKED) reply = meddled_marked(reply);
+    if (fault && now.entry >= ENCODE_SHORT) reply = meddled_short(reply);
     return fault ? meddled(reply) : reply;
 }
 
@@ -571,6 +581,15 @@ static size_t wrong_length(size_t right) {
 
 #include "fuzz_marked.h"
 
+static void tell_counts(const char *of, const uint64_t counts[PLACES + 1]) {
+    printf("%s", of);
+    for (int i = 0; i <= PLACES; i++)
+        if (counts[i]) printf(" %d:%llu", i, (unsigned long long)counts[i]);
+    printf("\n");
+}
+
+#include "fuzz_shortened.h"
+
 /* The places in bytes, and sometimes a spare bit, another length of input or output, or several of these at once. */
 static void try_places(int entry, word_t word, word_t made, int weight) {
     static uint8_t input[PAGE];
@@ -610,8 +629,9 @@ static void try_accepted(int count) {
     int n = code.n, k = code.k;
     for (int weight = 0; weight <= code.t + 2 && weight <= n && count > 30; weight++) try_decoding(weight);
     if (count > 30) try_bounds();
+    if (count > 30) try_short_bounds();
     for (; count > 0; count--) {
-        int kind = below(10);
+        int kind = below(13);
         word_t all = (((word_t)1 << (k - 1)) - 1) * 2 + 1, message = below(8) ? draw_places(k) : 0;
         if (message == 0 && below(3)) message = below(2) ? all : (word_t)1 << below(k);
         word_t drawn = draw_places(n);
@@ -621,6 +641,8 @@ static void try_accepted(int count) {
             word_t word = encoded(&code, message);
             int change = below(5);
             try_places(READ, change < 2 ? word : change < 4 ? word ^ draw_pattern(n, 1 + below(change == 2 ? 2 : n)) : drawn, 0, -1);
+        } else if (kind > 9) {
+            try_drawn_short();
         } else if (kind > 7) {
             try_drawn_marks();
         } else if (below(8)) {
@@ -638,9 +660,13 @@ static void try_refused(int count) {
     for (; count > 0; count--) {
         size_t length = below(2) ? places : wrong_length(places), output_length = below(2) ? places : wrong_length(places);
         for (size_t i = 0; i < length; i++) input[i] = (uint8_t)(below(2) ? draw() : 0);
-        int which = below(4);
+        int which = below(7);
         if (which < 3) {
             try(which, input, length, output_length, 0, -1);
+            continue;
+        }
+        if (which < 6) {
+            try_short(ENCODE_SHORT + which - 3, drawn_number(), input, length, output_length, 0, -1);
             continue;
         }
         size_t marks_length = below(2) ? places : wrong_length(places), second_length = below(2) ? places : wrong_length(places);
@@ -665,13 +691,6 @@ static void try_sheet(int good, int bad) {
 }
 
 /* ---- the run */
-static void tell_counts(const char *of, const uint64_t counts[PLACES + 1]) {
-    printf("%s", of);
-    for (int i = 0; i <= PLACES; i++)
-        if (counts[i]) printf(" %d:%llu", i, (unsigned long long)counts[i]);
-    printf("\n");
-}
-
 static void report_marked(void) {
     tell_counts("decoded with marks, by e:", count_marked_e);
     tell_counts("with marks decoded or refused with 15, by r:", count_marked_r);
@@ -689,7 +708,7 @@ static void report(uint64_t seed, double whole) {
            (unsigned long long)count_decided[0], (unsigned long long)count_decided[1], (unsigned long long)count_decided[2]);
     printf("%-12s", "reply");
     for (int e = 0; e < ENTRIES; e++) printf(" %13s", entry_name[e]);
-    for (int r = 0; r <= 15; r++) {
+    for (int r = 0; r <= LAST_REFUSAL; r++) {
         if (r)
             printf("\nrefused %-4d", r);
         else
@@ -700,6 +719,7 @@ static void report(uint64_t seed, double whole) {
     printf("words and trial words that were decoded or refused with 13:\n");
     for (int i = 0; i < HOW; i++) printf("  %10llu %s\n", (unsigned long long)count_how[i], how_name[i]);
     report_marked();
+    report_short();
     printf("checksum %016llx\n", (unsigned long long)checksum);
     for (int e = 0; e < SHOWN; e++)
         for (int r = e == CARD ? 11 : 1; r <= (e == CARD ? 11 : 12); r++)
@@ -707,6 +727,11 @@ static void report(uint64_t seed, double whole) {
                 printf("refusal %d never came from %s\n", r, entry_name[e]);
                 exit(1);
             }
+    for (int e = ENCODE_SHORT; e <= DECODE_SHORT; e++)
+        if (calls >= 100000 && (!count_refused[e][16] || !count_only_whole)) {
+            printf("refusal 16 never came from %s, or 13 never where another codeword was near\n", entry_name[e]);
+            exit(1);
+        }
     for (int by = 0; by < 3; by++)
         if (calls >= 100000 && !count_decided[by]) {
             printf("no certificate was chosen by reason %d\n", by);

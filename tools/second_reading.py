@@ -1,8 +1,8 @@
-# A second reading of document 01, with requests 2026-01 and 2026-03 to 2026-05 of document 02, made from their text alone: judge, card,
-# encode, read, decode, decode_marked and shown as searches and sums (rule 3 by Euclid's algorithm, in field_factors.py; `period` is for
-# misreadings alone), with none of the product's code and none of entry_answers.py's. Polynomials over two elements are masks, as in the
-# document. What the document leaves open (card's buffer of 1,024 bytes and its 11, the last newline, the 0 that encode and read return)
-# is as docs/PROMISES.md says.
+# A second reading of document 01, with requests 2026-01 and 2026-03 to 2026-06 of document 02, made from their text alone: judge, card,
+# encode, read, decode, decode_marked, shown, encode_short, read_short and decode_short as searches and sums (rule 3 by Euclid's
+# algorithm, in field_factors.py; `period` is for misreadings alone), with none of the product's code and none of entry_answers.py's.
+# Polynomials over two elements are masks, as in the document. What the document leaves open (card's buffer of 1,024 bytes and its 11, the
+# last newline, the 0 that encode and read return) is as docs/PROMISES.md says.
 #
 # tools/boundary_answers.py answers its calls by it. tools/misreadings replaces single lines of it, each by a wrong reading: that is
 # why every condition stands in a line of its own, and why what comes first is told by tables.
@@ -525,6 +525,129 @@ def shown(trial, n, zeros, ones):
     return buffer[:in_bytes(n)]
 
 
+# ---- shortened codes (document 02, request 2026-06): kind 8 encode_short, 9 read_short, 10 decode_short; `put` is the message or the
+# word, `lent` the buffer
+SHORT_NAMES = {8: 'encode_short', 9: 'read_short', 10: 'decode_short'}
+
+
+def bits_of(sheet, m):
+    # "so messages have k - m bits"
+    return k_of(sheet) - m
+
+
+def places_of(sheet, m):
+    # "and words n - m"
+    return byte(sheet, 2) - m
+
+
+def whole_message(sheet, m, message):
+    # "the top m message bits are 0"
+    return message
+
+
+def short_message(sheet, m, message):
+    return message % (1 << bits_of(sheet, m))
+
+
+def whole_word(sheet, m, word):
+    # "the top m places aren't sent"
+    return word
+
+
+def sent_word(sheet, m, word):
+    return word % (1 << places_of(sheet, m))
+
+
+def sent_places(sheet, m):
+    return range(places_of(sheet, m))
+
+
+def short_radius(sheet, m):
+    # "within t": the sheet's
+    return record(sheet)[5]
+
+
+@lru_cache(None)
+def short_patterns(sheet, m):
+    # sets of at most t of the places that are sent, by what they add to the remainder
+    patterns = {}
+    for e in range(short_radius(sheet, m) + 1):
+        for places in combinations(sent_places(sheet, m), e):
+            added = 0
+            for i in places:
+                added ^= remainders(sheet)[i]
+            patterns.setdefault(added, sum(1 << i for i in places))
+    return patterns
+
+
+def only_short(sheet, m, word):
+    # "the only shortened codeword within t", or None: what isn't sent is 0 in it, as in the received word
+    added = rest(word, generator(sheet))
+    return word ^ short_patterns(sheet, m)[added] if added in short_patterns(sheet, m) else None
+
+
+def short_handed(kind, sheet, m, put):
+    # as a message of k bits, or as a word of n places
+    if kind == 8:
+        return whole_message(sheet, m, mask_in(put, message_weight))
+    return whole_word(sheet, m, mask_in(put, word_weight))
+
+
+def short_sheet(kind, sheet, m, put, lent):
+    return judged(sheet)
+
+
+def m_wrong(kind, sheet, m, put, lent):
+    # "Refusal 16 .. is an m of 0 or not below k"
+    if m == 0:
+        return 16
+    return 16 if m >= k_of(sheet) else 0
+
+
+def short_input(kind, sheet, m, put, lent):
+    asked = bits_of(sheet, m) if kind == 8 else places_of(sheet, m)
+    return 11 if len(put) != in_bytes(asked) else 0
+
+
+def short_output(kind, sheet, m, put, lent):
+    asked = bits_of(sheet, m) if kind == 9 else places_of(sheet, m)
+    return 11 if len(lent) != in_bytes(asked) else 0
+
+
+def short_spare(kind, sheet, m, put, lent):
+    if kind == 8:
+        return 12 if mask_in(put, message_weight) >> bits_of(sheet, m) else 0
+    return 12 if mask_in(put, word_weight) >> places_of(sheet, m) else 0
+
+
+def no_short(kind, sheet, m, put, lent):
+    # "13 exactly if there is none"
+    if kind == 10:
+        return 0 if only_short(sheet, m, short_handed(kind, sheet, m, put)) is not None else 13
+    if kind == 9:
+        return 0 if rest(short_handed(kind, sheet, m, put), generator(sheet)) == 0 else 14
+    return 0
+
+
+SHORT_ORDER = (short_sheet, m_wrong, short_input, short_output, short_spare, no_short)
+
+
+def short_called(kind, sheet, m, put, lent):
+    # how the call ends, with its number, and the buffer afterwards
+    for refusal in SHORT_ORDER:
+        number = refusal(kind, sheet, m, put, lent)
+        if number:
+            return 'refused %d' % number, lent
+    mask = short_handed(kind, sheet, m, put)
+    if kind == 8:
+        return 'returned 0', word_bytes(sent_word(sheet, m, codeword(sheet, mask)), places_of(sheet, m))
+    if kind == 9:
+        return 'returned 0', message_bytes(short_message(sheet, m, message_in(sheet, mask)), bits_of(sheet, m))
+    right = only_short(sheet, m, mask)
+    count = (right ^ mask).bit_count()
+    return 'returned %d' % count, word_bytes(sent_word(sheet, m, right), places_of(sheet, m))
+
+
 def listing(sheet):
     if judged(sheet):
         return 'refused %d\n' % judged(sheet)
@@ -561,6 +684,9 @@ def told(sheet, kind, given, space):
     if kind == 7:
         trial, n = int.from_bytes(given[:8], 'little'), int.from_bytes(given[8:16], 'little')
         return 'shown ' + shown(trial, n, bytes(range(given[16])), bytes(range(128, 128 + given[17]))).hex()
+    if kind > 7:
+        end, lent = short_called(kind, sheet, int.from_bytes(given[:8], 'little'), given[8:], b'\xaa' * space)
+        return '%s %s %s' % (SHORT_NAMES[kind], end, lent.hex())
     end, number, out = called(kind, sheet, given, b'\xaa' * space)
     return '%s %s %d %s' % (NAMES[kind], end, number, out.hex())
 

@@ -1,10 +1,10 @@
 /* For tools/stack: calls an entry of the library on a painted stack and tells how deep the paint is gone.
  *
- *     stack ENTRY SHEET INPUT OUT_LEN MARKS
+ *     stack ENTRY SHEET INPUT OUT_LEN MARKS M
  *
- * ENTRY is encode, read, decode, decode_marked, shown_length or card; SHEET, INPUT and MARKS are hexadecimal digits. It writes what the
- * entry returned and the number of bytes from the stack pointer at the call, the return address included, to the deepest byte that was
- * written. */
+ * ENTRY is encode, read, decode, decode_marked, shown_length, encode_short, read_short, decode_short or card; SHEET, INPUT and MARKS are
+ * hexadecimal digits, and M is the number of places by which a code is shortened. It writes what the entry returned and the number of bytes
+ * from the stack pointer at the call, the return address included, to the deepest byte that was written. */
 #include "dunefork.h"
 #include <stdio.h>
 #include <stdlib.h>
@@ -53,16 +53,19 @@ int main(int argc, char **argv) {
     static uint8_t text[DUNEFORK_CARD_BYTES];
     uint8_t sheet[DUNEFORK_SHEET_MAX + 1], in[DUNEFORK_WORD_MAX + 1], marks[DUNEFORK_WORD_MAX + 1];
     uint8_t out[DUNEFORK_WORD_MAX + 1] = {0}, ones[DUNEFORK_WORD_MAX + 1] = {0};
-    if (argc != 6 || (size_t)atoi(argv[4]) > sizeof out) return 2;
+    if (argc != 7 || (size_t)atoi(argv[4]) > sizeof out) return 2;
     size_t s = (size_t)sheet, i = (size_t)in, m = (size_t)marks, z = (size_t)out, o = (size_t)ones, out_len = (size_t)atoi(argv[4]);
     size_t s_len = from_hex(argv[2], sheet, sizeof sheet), i_len = from_hex(argv[3], in, sizeof in);
-    size_t m_len = from_hex(argv[5], marks, sizeof marks), n = 8 * out_len, deepest = 0;
+    size_t m_len = from_hex(argv[5], marks, sizeof marks), n = 8 * out_len, by = (size_t)atoi(argv[6]), deepest = 0;
     const struct entry entries[] = {
         {"encode", (void *)dunefork_encode, {s, s_len, i, i_len, z, out_len}},
         {"read", (void *)dunefork_read, {s, s_len, i, i_len, z, out_len}},
         {"decode", (void *)dunefork_decode, {s, s_len, i, i_len, z, out_len}},
         {"decode_marked", (void *)dunefork_decode_marked, {s, s_len, i, i_len, m, m_len, z, out_len, o, out_len}},
         {"shown_length", (void *)dunefork_shown_length, {1, n, z, out_len, o, out_len}},
+        {"encode_short", (void *)dunefork_encode_short, {s, s_len, by, i, i_len, z, out_len}},
+        {"read_short", (void *)dunefork_read_short, {s, s_len, by, i, i_len, z, out_len}},
+        {"decode_short", (void *)dunefork_decode_short, {s, s_len, by, i, i_len, z, out_len}},
         {"card", (void *)dunefork_card, {s, s_len, (size_t)text, sizeof text}}};
     const struct entry *entry = entries, *end = entries + sizeof entries / sizeof *entries;
     while (entry < end && strcmp(argv[1], entry->name)) entry++;

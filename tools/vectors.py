@@ -183,6 +183,38 @@ def marked_calls():
             yield code.sheet, 6, given, 0, told
 
 
+def zeros_on_top(n, k, *words):
+    # how many of the top places are 0 in all of these words, k - 1 at most
+    return min([k - 1, *[n - word.bit_length() for word in words]])
+
+
+def shortened_calls():
+    # encode_short and read_short: each codeword with a 0 on top, with as many left out as there are. decode_short: each such received word;
+    # where the other program's codeword within t has another value there, the answer is 13
+    for code in codes():
+        n, k, t = numbers_of(code)
+        for word in code.words:
+            m, message = zeros_on_top(n, k, word), word >> n - k
+            if m > 0:
+                told, sizes = (message_bytes(message, k - m), word_bytes(word, n - m)), ((k - m + 7) // 8, (n - m + 7) // 8)
+                yield code.sheet, 8, m.to_bytes(8, 'little') + told[0], sizes[1], 'encode_short returned 0 ' + told[1].hex()
+                yield code.sheet, 9, m.to_bytes(8, 'little') + told[1], sizes[0], 'read_short returned 0 ' + told[0].hex()
+        for word, right in code.received:
+            m = zeros_on_top(n, k, word)
+            if m > 0:
+                size, near = (n - m + 7) // 8, right is not None and (word ^ right).bit_count() <= t
+                told = 'decode_short refused 13 ' + 'aa' * size
+                if near and zeros_on_top(n, k, word, right) == m:
+                    told = 'decode_short returned %d %s' % ((word ^ right).bit_count(), word_bytes(right, n - m).hex())
+                yield code.sheet, 10, m.to_bytes(8, 'little') + word_bytes(word, n - m), size, told
+
+
+def short_others():
+    # how many of these words have a codeword within t that is no shortened one
+    return sum(zeros_on_top(n, k, word) > zeros_on_top(n, k, word, right) for code in codes() for n, k, t in [numbers_of(code)]
+               for word, right in code.received if right is not None and (word ^ right).bit_count() <= t)
+
+
 PAGE = '''# Codes and words of other programs
 
 A program in the gate, `vectors`, is held to answers that were made elsewhere: by IT++ for BCH codes, by GAP's GUAVA for small
@@ -195,10 +227,15 @@ In both files a word is a mask over its places. tools/entry_answers.py puts word
 byte is its highest bit in a word (document 02, request 2026-01), and its lowest in a message (document 01).
 
 `tools/vectors.py` finds the sheet of each code and turns the files into %(entries)d calls of judge, card, encode and read,
-%(decodes)d of decode and %(marked)d of decode_marked. It has also written this page. The plain decoder is tools/decode_answers.py, which
-goes through error patterns or codewords; tools/marked_answers.py does so for words with marks; tools/entry_answers.py judges, lists,
-encodes and reads, and tools/boundary_answers.py does all of it again at every boundary, by a reading of its own (docs/MISREADINGS.md).
-docs/PROMISES.md says what they cover. `tools/answers.py` writes all calls and answers, crates/vectors/stdin and stdout.
+%(decodes)d of decode, %(marked)d of decode_marked and %(shortened)d of encode_short, read_short and decode_short. It has also written this
+page. The plain decoder is tools/decode_answers.py, which goes through error patterns or codewords; tools/marked_answers.py does so for
+words with marks, and tools/shortened_answers.py for shortened codes; tools/entry_answers.py judges, lists, encodes and reads, and
+tools/boundary_answers.py does all of it again at every boundary, by a reading of its own (docs/MISREADINGS.md). docs/PROMISES.md says what
+they cover. `tools/answers.py` writes all calls and answers, crates/vectors/stdin and stdout.
+
+Of all %(all)s calls %(short)s are of encode_short, read_short and decode_short. tools/shortened_answers.py has %(answered)s of them, with m
+from 1 to k - 1, next to these and up to 2^64 - 1; every word of %(every)d short codes; and at least %(others)s words that draw 13 with a
+codeword within t places, which is no shortened one. tools/boundary_answers.py has %(bounds)s.
 
 On a code of GUAVA's a word has 0 to 5 wrong places, on one of IT++'s 0 to t + 2, two words for each number.
 
@@ -215,6 +252,9 @@ What each is held to:
 - Neither file has words with marks. decode_marked gets each received word of theirs: without marks, where it is to find what they
   found, or answer 15 where decode answers 13; or with up to d - 1 marks such that their codeword is the answer and lies within t places
   of both trial words (%(with_marks)d words).
+- Neither file has shortened codes. A codeword whose top places are 0 is one of the code without these: encode_short and read_short get
+  each of theirs with as many left out as are 0, k - 1 at most, and decode_short each received word (%(short_words)d). Where their codeword
+  within t places has a 1 there, the answer is 13 (%(short_others)d words).
 - Sheets damaged in every byte: each draws the same refusal from every entry.
 
 | made by | n | k | d proved | d of GUAVA | t | b z f h L | codewords | decoded | refused with 13 |
@@ -237,9 +277,19 @@ def row(code):
 
 
 def main():
+    # answers.py has this script among others
+    import answers
+    import boundary_answers
+    import shortened_answers
     marked = [call[2][4 + call[2][0]:] for call in marked_calls()]
+    kinds, bounds = ([call[1] for call in calls] for calls in (answers.all_calls(), boundary_answers.boundary_calls()))
+    answered, shortened = len(list(shortened_answers.shortened_calls())), [call[1] for call in shortened_calls()]
     print(PAGE % dict(itpp=first_line('itpp.txt'), guava=first_line('guava.txt'), entries=len(list(entry_calls())),
-                      decodes=len(list(decode_calls())), marked=len(marked), with_marks=sum(any(marks) for marks in marked)), end='')
+                      decodes=len(list(decode_calls())), marked=len(marked), with_marks=sum(any(marks) for marks in marked),
+                      all=f'{len(kinds):,}', short=f'{sum(kind > 7 for kind in kinds):,}', answered=f'{answered:,}',
+                      bounds=f'{sum(kind > 7 for kind in bounds):,}', every=len(shortened_answers.EVERY),
+                      others=f'{shortened_answers.near_others():,}', shortened=len(shortened), short_words=shortened.count(10),
+                      short_others=short_others()), end='')
     for code in codes():
         print('| %s |' % ' | '.join(map(str, row(code))))
 

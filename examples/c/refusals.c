@@ -22,6 +22,7 @@ static const char *meaning(int32_t answer) {
     case DUNEFORK_NONE_NEAR: return "no codeword within t places";
     case DUNEFORK_NO_CODEWORD: return "the word is no codeword";
     case DUNEFORK_NONE_WITH_MARKS: return "no codeword with 2 e + r at most d - 1";
+    case DUNEFORK_SHORTENING: return "m is 0 or not below k";
     default: return "done";
     }
 }
@@ -54,6 +55,13 @@ static void marked(const char *what, uint8_t word, uint8_t marks) {
     tell(what, answer, *zeros == 0xee ? ones : zeros);
 }
 
+/* Decoding of a word of sheet H, where k = 4, shortened by m; any m but 1, 2 and 3 is refused before the word is looked at. */
+static void shortened(const char *what, size_t m, const uint8_t *word, size_t word_len) {
+    uint8_t out[1] = {0xee};
+    int32_t answer = dunefork_decode_short(sheet_h, sizeof sheet_h, m, word, word_len, out, 1);
+    tell(what, answer, out);
+}
+
 int main(void) {
     /* n = 7: a word's place 0 is the highest bit of its byte, and the lowest is spare. k = 4: a message's four high bits are spare. */
     const uint8_t zero[1] = {0}, place_0[1] = {0x80}, places_0_1[1] = {0xc0}, spare[1] = {0x01}, spare_in_message[1] = {0x10};
@@ -84,6 +92,18 @@ int main(void) {
     marked("marks 01", 0x00, 0x01);
     marked("word 80, marks 40", 0x80, 0x40);
     marked("word 00, marks e0", 0x00, 0xe0);
+
+    /* With m = 2 a word has 5 places and three spare bits, a message 2 places. The only codeword within one place of 30 is 34, with a 1 in
+     * place 5, which is not sent. */
+    const uint8_t spare_of_five[1] = {0x04}, places_2_3[1] = {0x30};
+    shortened("m = 0", 0, zero, 1);
+    shortened("m = 4, empty word", 4, NULL, 0);
+    shortened("m = SIZE_MAX, word 01", SIZE_MAX, spare, 1);
+    shortened("m = 3, empty word", 3, NULL, 0);
+    shortened("m = 2, word 04", 2, spare_of_five, 1);
+    shortened("m = 2, word 30", 2, places_2_3, 1);
+    tell("m = 2, read word 80", dunefork_read_short(sheet_h, sizeof sheet_h, 2, place_0, 1, out, 1), out);
+    tell("m = 2, message 04", dunefork_encode_short(sheet_h, sizeof sheet_h, 2, spare_of_five, 1, out, 1), out);
 
     /* Pointers may be null where the length is 0. */
     tell("no sheet", dunefork_encode(NULL, 0, zero, 1, out, 1), out);

@@ -6,4 +6,5 @@ pub mod RulesHeld
 pub mod Distance
 pub mod Sheets
 pub mod Decoding
+pub mod Shortening
 pub mod Marks

@@ -1,7 +1,7 @@
 -- The three demands, each one theorem about the entries, and what document 02's requests state. This is the file to read first.
 --
--- It speaks of judgeOf, encodeOf, readOf, decodeOf, decodeMarkedOf and cardOf (document/specs/Short.antt) and of shownOf (Marked.antt). The
--- contract of each entry is one equation: reply and bytes are, in the documents' numbers, what these give, whatever is handed over. So what
+-- It speaks of judgeOf, encodeOf, readOf, decodeOf, encodeShortenedOf, readShortenedOf, decodeShortenedOf, decodeMarkedOf and cardOf
+-- (document/specs/Short.antt) and of shownOf (Marked.antt). The contract of each entry is one equation: reply and bytes are, in the documents' numbers, what these give, whatever is handed over. So what
 -- is said of them is said of the entries.
 --
 --   Demand1, demand-1      every answer, and every refusal exactly at its turn
@@ -12,6 +12,7 @@
 --   Request03, request-03      2026-03, rule 3 as document 001 needs it
 --   Request04, request-04      2026-04, the shorter certificate of two equal ones
 --   Request05, request-05      2026-05, bits the modem isn't sure of
+--   Request06, request-06      2026-06, shortened codes
 -- A record for each demand and for each request, a field for each clause, under the clause's words. Each demand is for every list of bytes
 -- that may be a sheet; x is what it states. The words are in specs/Published.antt and specs/Table.antt, under the documents' sentences. That
 -- the field's masks are the smallest primitive ones is mask-least of field/proofs/Smallest.antt; examples, 13 with a buffer that was not 0
@@ -35,8 +36,10 @@ use Rattle.document.specs.Judge.{certificateConditions, dimensionOf, workingOf,
 use Rattle.document.specs.OtherTest.{conditionsWith}
 use Rattle.document.specs.Entry.{CodewordOf, generatorOf, radiusOf, wordOf, changed}
 use Rattle.document.specs.Marked.{markedOnes, markedZeros, marksCount, unmarkedChanged, WithinMarks, trialWord, shownOf}
+use Rattle.document.specs.Shortened.{sentWordOf, sentMessageOf, ShortenedCodeword}
 use Rattle.document.specs.Card.{refusedLine, acceptedLines, certificateText, radiusText}
 use Rattle.document.specs.Short.{short, stated, refusalsOf, judgeOf, encodeOf, readOf, decodeOf, decodeMarkedOf, listing, cardOf}
+use Rattle.document.specs.Short.{encodeShortenedOf, readShortenedOf, decodeShortenedOf}
 use Rattle.document.proofs.Meaning.{differ-count}
 use Rattle.document.proofs.Tested.{conditions-are}
 use Rattle.document.proofs.Working.{radius-rises, radius-most}
@@ -44,13 +47,16 @@ use Rattle.codeword.proofs.Places.{mask-lt, mask-coefficient}
 use Rattle.certificate.proofs.Marks.{half-or-half}
 use Rattle.code.specs.Published.{IsAccepted, SheetRead, Bytes, Word, Message, InDefiningSet, SetSize, ZeroAt}
 use Rattle.code.specs.Published.{HasDegree, Divides, Rule1, Rule3, Published, Rounded, Working, WorkingIs, Systematic, WordDecoded, MarkedCall, WordShown, kept}
+use Rattle.code.specs.Published.{ShortenedSheet, ShortenedWord, ShortenedMessage, ShortenedSystematic, ShortenedDecoded}
 use Rattle.code.specs.Turns.{FirstThatHolds}
 use Rattle.code.specs.Table.{SpareBit, NoneNear, NoneWithMarks, sheetTurns, encodeTurns, readTurns, decodeTurns, markedTurns, cardTurns}
 use Rattle.code.specs.Table.{NoneNearSaid, NoCodewordSaid, NoneWithMarksSaid, Answered}
+use Rattle.code.specs.Table.{WrongShortening, NoneNearShortened, encodeShortenedTurns, readShortenedTurns, decodeShortenedTurns}
 use Rattle.code.specs.Before.{PeriodCoprime, periodCoprime, judgeBefore, WorkingBefore, workingBefore, decodeWith}
 use Rattle.code.proofs.Tried.{judge-answered, encode-answered, read-answered, decode-answered, marked-answered, card-answered}
+use Rattle.code.proofs.Tried.{encode-short-answered, read-short-answered, decode-short-answered}
 use Rattle.code.proofs.Refusing.{read-sheet-bytes, sheet-first, marked-first, card-writes, text-refused-iff, text-listed-iff}
-use Rattle.code.proofs.Refusing.{thirteen-iff, fourteen-iff, fifteen-iff}
+use Rattle.code.proofs.Refusing.{shortened-first, thirteen-iff, fourteen-iff, fifteen-iff, sixteen-iff}
 use Rattle.code.proofs.Fits.{listing-fits}
 use Rattle.code.proofs.Worded.{word-spare-said, message-spare-said, mask-word, word-one, degree-said, dimension-said, generator-said}
 use Rattle.code.proofs.Worded.{generator-degree-said, multiple-said, zeros-said}
@@ -64,6 +70,7 @@ use Rattle.code.proofs.Chosen.{working-only, record-chosen, card-chosen
 use Rattle.code.proofs.Uncertain.{marks-counted, unmarked-counted, trial-places, bound-same, only-said, exists-said, fifteen-said}
 use Rattle.code.proofs.Uncertain.{shown-said, held-said, one-decodes, zeros-decoded, ones-decoded, unmarked-said, unmarked-none}
 use Rattle.code.proofs.Uncertain.{shown-zero, shown-other, shown-short}
+use Rattle.code.proofs.Shortened as Shortened
 
 module _ (sheet : List ℕ) where
   abbrev x : Stated
@@ -86,7 +93,7 @@ module _ (sheet : List ℕ) where
   pub record Demand1 : Type 0 where
     -- what is stated is what the sheet's bytes say
     pub bytes : SheetRead sheet x
-    -- each entry answers 0, or 1 to 15 with no values and the lent buffers as they were; and the number r exactly when condition r holds and
+    -- each entry answers 0, or 1 to 16 with no values and the lent buffers as they were; and the number r exactly when condition r holds and
     -- no earlier one in the documents' order does
     pub judge : Answered {B = List ℕ} (sheetTurns sheet) (judgeOf sheet, []) []
     pub encode : (message out : List ℕ) → Answered (encodeTurns sheet message out) (encodeOf sheet message out) out
@@ -94,6 +101,9 @@ module _ (sheet : List ℕ) where
     pub decode : (word out : List ℕ) → Answered (decodeTurns sheet word out) (decodeOf sheet word out) out
     pub decode-marked : (word marks zeros ones : List ℕ)
         → Answered (markedTurns sheet word marks zeros ones) (decodeMarkedOf sheet word marks zeros ones) (zeros, ones)
+    pub encode-short : (m : ℕ) (message out : List ℕ) → Answered (encodeShortenedTurns sheet m message out) (encodeShortenedOf sheet m message out) out
+    pub read-short : (m : ℕ) (word out : List ℕ) → Answered (readShortenedTurns sheet m word out) (readShortenedOf sheet m word out) out
+    pub decode-short : (m : ℕ) (word out : List ℕ) → Answered (decodeShortenedTurns sheet m word out) (decodeShortenedOf sheet m word out) out
     -- card's only refusal is 11, before the sheet is judged
     pub card : (out : List ℕ) → Answered (cardTurns out) (cardOf sheet out) out
     -- every entry but card refuses with the sheet's refusal, if it has one
@@ -102,6 +112,9 @@ module _ (sheet : List ℕ) where
         × (decodeOf sheet input out ≡ (refused r, out))
     pub sheet-refusal-marked : (word marks zeros ones : List ℕ) (r : ℕ) → judgeOf sheet ≡ refused r
         → decodeMarkedOf sheet word marks zeros ones ≡ (refused r, (zeros, ones))
+    pub sheet-refusal-short : (m : ℕ) (input out : List ℕ) (r : ℕ) → judgeOf sheet ≡ refused r
+        → (encodeShortenedOf sheet m input out ≡ (refused r, out)) × (readShortenedOf sheet m input out ≡ (refused r, out))
+        × (decodeShortenedOf sheet m input out ≡ (refused r, out))
     -- card writes its text, returns the text's length, and leaves what stood after it
     pub card-text : (out : List ℕ) → length out ≡ 1024
         → cardOf sheet out ≡ (returned (length (listing sheet) ∷ []), listing sheet ++ drop (length (listing sheet)) out)
@@ -119,6 +132,12 @@ module _ (sheet : List ℕ) where
     -- 15 says, whatever was handed over: the sheet is accepted, lengths and spare bits are right, and no codeword has 2·e + r at most d - 1
     pub fifteen : (word marks zeros ones : List ℕ) → (decodeMarkedOf sheet word marks zeros ones .0 .number ≡ 15)
         ↔ NoneWithMarksSaid sheet word marks zeros ones
+    -- 16 says, whatever was handed over, of encoding, reading out and decoding a shortened code: the sheet is accepted, and m is 0 or not
+    -- below k
+    pub sixteen : (m : ℕ) (input out : List ℕ)
+        → ((encodeShortenedOf sheet m input out .0 .number ≡ 16) ↔ (IsAccepted sheet × WrongShortening m x))
+        × ((readShortenedOf sheet m input out .0 .number ≡ 16) ↔ (IsAccepted sheet × WrongShortening m x))
+        × ((decodeShortenedOf sheet m input out .0 .number ≡ 16) ↔ (IsAccepted sheet × WrongShortening m x))
 
   -- ---- demand 2: for every accepted sheet, in bytes
   pub record Demand2 : Type 0 where
@@ -315,6 +334,55 @@ module _ (sheet : List ℕ) where
     pub shown-other : (trial n : ℕ) (zeros ones : List ℕ) → trial ≢ 0 → shownOf trial n zeros ones ≡ take ((n + 7) / 8) ones
     pub shown-short : (n : ℕ) (buffer : List ℕ) → length buffer ≤ (n + 7) / 8 → take ((n + 7) / 8) buffer ≡ buffer
 
+  -- ---- 2026-06, shortened codes: "the top m message bits are 0 and the top m places aren't sent, so messages have k - m bits and words n - m".
+  -- ShortenedSheet says that the sheet is accepted and m is neither 0 nor k or more. A word of n - m places is the mask of n places that has 0
+  -- in the others, and a message likewise.
+  pub record Request06 : Type 0 where
+    pub word-places : (m : ℕ) (word : List ℕ) (i : ℕ) → (i < x .n - m → coefficient i (sentWordOf m x word) ≡ place wordWeight word i)
+        × (x .n - m ≤ i → coefficient i (sentWordOf m x word) ≡ 0)
+    pub message-places : (m : ℕ) (message : List ℕ) (i : ℕ)
+        → (i < k - m → coefficient i (sentMessageOf m x message) ≡ place messageWeight message i)
+        × (k - m ≤ i → coefficient i (sentMessageOf m x message) ≡ 0)
+    -- a shortened codeword is a codeword whose top m places are 0
+    pub shortened : (m c : ℕ) → ShortenedCodeword m x c ↔ (CodewordOf x c × ((i : ℕ) → x .n - m ≤ i → i < x .n → coefficient i c ≡ 0))
+    -- encoding is that of the message with m zero bits above: what is sent of its codeword is the codeword, and 0 above
+    pub encodes-as : (m : ℕ) → ShortenedSheet sheet m → (message out whole all : List ℕ) → ShortenedMessage m x message
+        → length out ≡ (x .n - m + 7) / 8 → Message x whole → maskOf messageWeight k whole ≡ sentMessageOf m x message
+        → length all ≡ (x .n + 7) / 8 → wordOf x (encodeOf sheet whole all .1) ≡ sentWordOf m x (encodeShortenedOf sheet m message out .1)
+    -- each message is encoded into its systematic codeword, and reads back the same
+    pub encodes : (m : ℕ) → ShortenedSheet sheet m → (message out : List ℕ) → ShortenedMessage m x message → Bytes message
+        → length out ≡ (x .n - m + 7) / 8
+        → (word : List ℕ) × (encodeShortenedOf sheet m message out ≡ (returned (0 ∷ []), word)) × ShortenedSystematic m x message word
+        × ((back : List ℕ) → length back ≡ (k - m + 7) / 8 → readShortenedOf sheet m word back ≡ (returned (0 ∷ []), message))
+    -- each shortened codeword reads out as a message, which is encoded into it
+    pub reads : (m : ℕ) → ShortenedSheet sheet m → (word out : List ℕ) → ShortenedWord m x word → Bytes word
+        → ShortenedCodeword m x (sentWordOf m x word) → length out ≡ (k - m + 7) / 8
+        → (message : List ℕ) × ShortenedMessage m x message × Bytes message × (readShortenedOf sheet m word out ≡ (returned (0 ∷ []), message))
+        × ((back : List ℕ) → length back ≡ (x .n - m + 7) / 8 → encodeShortenedOf sheet m message back ≡ (returned (0 ∷ []), word))
+    -- what is no shortened codeword is refused with 14
+    pub no-codeword : (m : ℕ) → ShortenedSheet sheet m → (word out : List ℕ) → ShortenedWord m x word
+        → ¬ ShortenedCodeword m x (sentWordOf m x word) → length out ≡ (k - m + 7) / 8 → readShortenedOf sheet m word out ≡ (refused 14, out)
+    -- "Decoding a shortened word gives the only shortened codeword within t": the number is 0 ⟺ there is one; and then it is written, with the
+    -- number of changed places, and no other codeword, shortened or not, is within t
+    pub found : (m : ℕ) → ShortenedSheet sheet m → (word out : List ℕ) → ShortenedWord m x word → length out ≡ (x .n - m + 7) / 8
+        → (decodeShortenedOf sheet m word out .0 .number ≡ 0)
+        ↔ ((c : ℕ) × ShortenedCodeword m x c × (differences (x .n) (sentWordOf m x word) c ≤ t))
+    pub decoded : (m : ℕ) → ShortenedSheet sheet m → (word out : List ℕ) → ShortenedWord m x word → length out ≡ (x .n - m + 7) / 8
+        → decodeShortenedOf sheet m word out .0 .number ≡ 0 → ShortenedDecoded m x word (decodeShortenedOf sheet m word out)
+    -- "and 13 exactly if there is none",
+    pub none : (m : ℕ) → ShortenedSheet sheet m → (word out : List ℕ) → ShortenedWord m x word → length out ≡ (x .n - m + 7) / 8
+        → (decodeShortenedOf sheet m word out .0 .number ≡ 13) ↔ NoneNearShortened m x word
+    -- "also where an unshortened codeword was near": within t of a codeword that is no shortened one
+    pub other-near : (m : ℕ) → ShortenedSheet sheet m → (word out : List ℕ) → ShortenedWord m x word → length out ≡ (x .n - m + 7) / 8
+        → (c : ℕ) → CodewordOf x c → differences (x .n) (sentWordOf m x word) c ≤ t → ¬ ShortenedCodeword m x c
+        → decodeShortenedOf sheet m word out ≡ (refused 13, out)
+    -- in how many places a word and a shortened codeword differ: those that are sent
+    pub differ : (m : ℕ) → ShortenedSheet sheet m → (word : List ℕ) (c : ℕ) → ShortenedCodeword m x c
+        → differences (x .n) (sentWordOf m x word) c ≡ total (x .n - m) (λ i. (place wordWeight word i + coefficient i c) % 2)
+    -- any two different shortened codewords differ in at least d of them
+    pub apart : (m : ℕ) → ShortenedSheet sheet m → (b c : ℕ) → ShortenedCodeword m x b → ShortenedCodeword m x c → b ≢ c
+        → d ≤ differences (x .n - m) b c
+
 -- ---- of bytes alone: 2026-01, highest bit first: for all bytes; spare bits for a buffer of the right length
 pub record Request01 : Type 0 where
   -- "place i of a word has weight 2^(7 - i mod 8) in byte i div 8"
@@ -337,9 +405,13 @@ demand-1 sheet = record {
   read = read-answered sheet;
   decode = decode-answered sheet;
   decode-marked = marked-answered sheet;
+  encode-short = encode-short-answered sheet;
+  read-short = read-short-answered sheet;
+  decode-short = decode-short-answered sheet;
   card = card-answered sheet;
   sheet-refusal = sheet-first sheet;
   sheet-refusal-marked = marked-first sheet;
+  sheet-refusal-short = shortened-first sheet;
   card-text = card-writes sheet;
   card-fits = listing-fits sheet;
   card-refusal = text-refused-iff sheet;
@@ -347,6 +419,7 @@ demand-1 sheet = record {
   thirteen = thirteen-iff sheet;
   fourteen = fourteen-iff sheet;
   fifteen = fifteen-iff sheet;
+  sixteen = sixteen-iff sheet;
 }
 
 pub demand-2 : (sheet : List ℕ) → Demand2 sheet
@@ -446,4 +519,21 @@ request-05 sheet = record {
   shown-zero = shown-zero;
   shown-other = shown-other;
   shown-short = shown-short;
+}
+
+pub request-06 : (sheet : List ℕ) → Request06 sheet
+request-06 sheet = record {
+  word-places = Shortened.sent-word (stated sheet);
+  message-places = Shortened.sent-message (stated sheet);
+  shortened = Shortened.shortened-iff (stated sheet);
+  encodes-as = Shortened.encoded-as sheet;
+  encodes = Shortened.encodes-said sheet;
+  reads = Shortened.reads-said sheet;
+  no-codeword = Shortened.refused-said sheet;
+  found = Shortened.found-said sheet;
+  decoded = Shortened.decoded-said sheet;
+  none = Shortened.none-said sheet;
+  other-near = Shortened.other-near sheet;
+  differ = Shortened.counted-said sheet;
+  apart = Shortened.apart-said sheet;
 }

@@ -20,3 +20,4 @@ pub mod Worded
 pub mod Kept
 pub mod Chosen
 pub mod Uncertain
+pub mod Shortened

@@ -1,28 +1,28 @@
 -- The entries on an accepted sheet of any kind, from its parts.
 --
---   number-le          a refusal's number is at most 15
+--   number-le          a refusal's number is at most 16
 --   record-distance    d of the record is the sheet's distance
 --   first-is           a refusal's number is that of the first condition that holds
 --   Ready, ready       what an accepted sheet grants the entries: its numbers, and its representatives as they were read
---   part, usable-part, given, terms-few, states      what encoding, reading out and decoding need
+--   part, usable-part, shortening-is, shortening-less, given, terms-few, states      what encoding, reading out and decoding need
 --   listable, lists    what the listing needs
 --   right, marked, none-marked, page-needs, card-listed      D marked again, and the page
 use mathlib.Core.Path.{_≡_, refl, sym, ap, ap₂, _∙_, subst}
-use mathlib.Core.Bool.{Bool, false, not, _||_, _&&_}
+use mathlib.Core.Bool.{Bool, true, false, not, _||_, _&&_}
 use mathlib.Core.List.{List, [], _∷_}
 use Prim.Native.Nat.{ℕ, _+_, _-_, _≤_, _<_}
 use native.Mathlib.Decide.{ℕ-discrete}
 use native.Mathlib.Omega.{arith}
-use lib.Dec.{leb, ltb}
+use lib.Dec.{eqb, leb, ltb}
 use lib.ListN.{length, getD, take, replicate, length-replicate, getD-replicate}
-use borrow.Author.Tests.{lt-ltb, le-leb, lt-leb}
+use borrow.Author.Tests.{lt-ltb, le-leb, lt-leb, leb-false}
 use Rattle.field.specs.Search.{some}
-use Rattle.field.proofs.Search.{some-false}
+use Rattle.field.proofs.Search.{true-ne-false, some-false}
 use Rattle.binary.specs.Factor.{degree}
 use Rattle.document.specs.declared.types.Refusal.{Refusal}
 use Rattle.document.specs.declared.types.Refusal.the-variants.{SheetLength, CodeLength, FieldDegree, Header, Representative}
 use Rattle.document.specs.declared.types.Refusal.the-variants.{NoMessage, Range, CommonFactor, Period, Term, BufferLength, SpareBit}
-use Rattle.document.specs.declared.types.Refusal.the-variants.{NoneNear, NoCodeword, NoneWithMarks}
+use Rattle.document.specs.declared.types.Refusal.the-variants.{NoneNear, NoCodeword, NoneWithMarks, Shortening}
 use Rattle.document.specs.Answer.{Answer, returned, refused, numberOf, firstOf}
 use Rattle.document.specs.Sheet.{Certificate, Stated, certificateAt, Kind, statedBy}
 use Rattle.document.specs.Coset.{smallest, inSet}
@@ -31,6 +31,7 @@ use Rattle.document.specs.Certificate.{distance, radius}
 use Rattle.document.specs.Judge.{wrongRepresentative, judgeConditions, workingOf, workingCertificate, recordOf}
 use Rattle.document.specs.Entry.{radiusOf}
 use Rattle.document.specs.Marked.{distanceOf}
+use Rattle.document.specs.Shortened.{wrongShortening}
 use Rattle.document.proofs.Chain.{Quiet}
 use Rattle.document.proofs.Stated.{Counted, counted, odd-to, tabulated-length}
 use Rattle.document.proofs.Acceptance.{judgeBy, judge-number, quiet-of, quiet-rules}
@@ -50,7 +51,7 @@ use Rattle.listing.specs.Accepted as Page
 use Rattle.code.specs.Stating.{CardListable, CardLists, CardListed, JudgedInto}
 use Rattle.code.proofs.Accepted.{Limits, Recorded, judged-record, recorded, conditions, coded, usable, usable-by, part-is}
 
-pub number-le : (q : Refusal) → numberOf q ≤ 15
+pub number-le : (q : Refusal) → numberOf q ≤ 16
 number-le SheetLength = omega arith
 number-le CodeLength = omega arith
 number-le FieldDegree = omega arith
@@ -66,6 +67,7 @@ number-le SpareBit = omega arith
 number-le NoneNear = omega arith
 number-le NoCodeword = omega arith
 number-le NoneWithMarks = omega arith
+number-le Shortening = omega arith
 
 pub first-is : (kind : Kind) (sheet : List ℕ) {r : ℕ} → refused r ≡ judgeBy kind sheet → firstOf (judgeConditions kind sheet) ≡ r
 first-is kind sheet e = sym (judge-number kind sheet) ∙ sym (ap (λ (a : Answer). a .number) e)
@@ -75,6 +77,10 @@ pub record-distance : {kind : Kind} {sheet w : List ℕ} {answer : Answer} {n k 
     → returned (n ∷ k ∷ s ∷ i ∷ d ∷ t ∷ l ∷ []) ≡ answer → d ≡ distanceOf (statedBy kind sheet)
 unfolding recordOf
 record-distance {kind} {sheet} j e = ap (λ v. getD v 4 0) (judged-record kind sheet (e ∙ j .is) .1)
+
+or-none : (a b : Bool) → a || b ≡ false → b ≡ false
+or-none true b e = absurd (true-ne-false refl e)
+or-none false b e = e
 
 -- ---- an accepted sheet
 pub record Ready (kind : Kind) (sheet : List ℕ) (n k s working t : ℕ) (w : List ℕ) : Type 0 where
@@ -118,6 +124,14 @@ module _ {kind : Kind} {sheet : List ℕ} {n k s working t : ℕ} {w : List ℕ}
 
     pub usable-part : Usable n k s (take count w)
     usable-part = subst (Usable n k s) (sym part) (r .usable)
+
+  -- ---- by how many places the code is shortened
+  module _ (m : ℕ) {wrong : Bool} (e : wrong ≡ eqb m 0 || leb k m) where
+    pub shortening-is : wrong ≡ wrongShortening m x
+    shortening-is = e ∙ ap (λ (i : ℕ). eqb m 0 || leb i m) (r .numbers .k-is)
+
+    pub shortening-less : wrong ≡ false → m < k
+    shortening-less q = leb-false k m (or-none (eqb m 0) (leb k m) (sym e ∙ q))
 
   -- ---- decoding: c is the working certificate
   pub within : working < length (statedBy kind sheet .certificates)

@@ -1,13 +1,14 @@
 -- What single refusals say.
 --
 --   read-sheet-bytes         what is stated is what a sheet's bytes say
---   sheet-first, marked-first      every entry but card refuses with the sheet's refusal
+--   sheet-first, marked-first, shortened-first      every entry but card refuses with the sheet's refusal
 --   card-writes, text-refused-iff, text-listed-iff      the text that card writes
---   thirteen-iff, fourteen-iff, fifteen-iff      what 13, 14 and 15 say, whatever was handed over
+--   thirteen-iff, fourteen-iff, fifteen-iff, sixteen-iff      what 13 to 16 say, whatever was handed over
 use mathlib.Core.Path.{_≡_, refl, sym, ap, _∙_}
 use mathlib.Core.Logic.{_↔_, inl, inr}
-use mathlib.Core.List.{List, [], _∷_, _++_}
-use Prim.Native.Nat.{ℕ, zero, suc, _+_, _*_, _<_}
+use mathlib.Core.Bool.{Bool, true, false}
+use mathlib.Core.List.{List, [], _∷_, _++_, append-assoc}
+use Prim.Native.Nat.{ℕ, zero, suc, _+_, _*_, _≤_, _<_}
 use native.Mathlib.Omega.{arith}
 use lib.ListN.{length, drop}
 use Rattle.document.specs.Answer.{Answer, returned, refused, Conditions, firstOf, settleIn, settle}
@@ -15,21 +16,24 @@ use Rattle.document.specs.Sheet.{Certificate, Stated, certificateAt}
 use Rattle.document.specs.Judge.{recordOf, judgeEntry}
 use Rattle.document.specs.Entry.{encodeConditions, encodeEntry, readConditions, readEntry, decodeConditions, decodeEntry}
 use Rattle.document.specs.Marked.{markedConditions, markedEntry}
+use Rattle.document.specs.Shortened.{wrongShortening, shorteningConditions, encodeShortenedConditions, encodeShortenedEntry}
+use Rattle.document.specs.Shortened.{readShortenedConditions, readShortenedEntry, decodeShortenedConditions, decodeShortenedEntry}
 use Rattle.document.specs.Card.{refusedLine, acceptedLines, listingFor, listingOf, cardConditions, cardEntry}
 use Rattle.document.specs.Short.{short, byteAt, stated, refusalsOf, judgeOf, encodeOf, readOf, decodeOf, decodeMarkedOf, listing, cardOf}
+use Rattle.document.specs.Short.{refusalsToShorten, encodeShortenedOf, readShortenedOf, decodeShortenedOf}
 use Rattle.document.proofs.Sane.{settle-number}
 use Rattle.document.proofs.Stated.{representatives-length, representative-is, certificates-length, certificate-is, length-is}
-use Rattle.document.proofs.Chain.{first-quiet, first-keep}
+use Rattle.document.proofs.Chain.{first-true, first-false, first-quiet, first-keep}
 use Rattle.document.proofs.Acceptance.{judge-number, judge-le, quiet-of}
-use Rattle.document.proofs.Settled.{entry-sheet}
+use Rattle.document.proofs.Settled.{entry-sheet, sheet-before}
 use Rattle.document.proofs.Reflect.{eqb-iff}
 use Rattle.document.proofs.CardIs.{refused-injective, accepted-other}
 use Rattle.certificate.proofs.Sheets as Sheets
 use Rattle.code.specs.Turns.{Turns, FirstThatHolds}
 use Rattle.code.specs.Published.{IsAccepted, CertificateRead, SheetRead}
-use Rattle.code.specs.Table.{NoneNearSaid, NoCodewordSaid, NoneWithMarksSaid, decodeOwn, readOwn, markedOwn, lastRefusal}
+use Rattle.code.specs.Table.{WrongShortening, NoneNearSaid, NoCodewordSaid, NoneWithMarksSaid, decodeOwn, readOwn, markedOwn, lastRefusal}
 use Rattle.code.proofs.InTurn.{stable, said-none, said-first}
-use Rattle.code.proofs.Tried.{card-said, read-own, decode-own, marked-own}
+use Rattle.code.proofs.Tried.{card-said, read-own, decode-own, marked-own, shortening-said}
 
 -- ---- the text, by the number of the sheet's first condition
 text-accepted : (x : Stated) (r : ℕ) → (listingFor 0 x ≡ refusedLine r) ↔ (settle 0 (recordOf x) [] [] .0 ≡ refused r)
@@ -51,6 +55,20 @@ never-zero-at : (x : Stated) (q : ℕ) → ¬ (settle q (recordOf x) [] [] .0 �
 unfolding settleIn recordOf
 never-zero-at x zero e = let z : _≡_ {A = ℕ} 7 0 = ap (λ (a : Answer). length (a .values)) e in omega arith
 never-zero-at x (suc q) e = let z : suc q ≡ 0 = ap (λ (a : Answer). a .number) e in omega arith
+
+-- the number of the first condition is at most the largest of all
+abbrev Most : ℕ → Conditions → Type 0
+Most top [] = Unit
+Most top (c ∷ l) = (c .0 ≤ top) × Most top l
+
+first-most : (top : ℕ) (l : Conditions) → Most top l → firstOf l ≤ top
+unfolding firstOf
+first-most top [] h = omega arith
+first-most top (c ∷ l) h = go (c .1) refl (first-most top l (h .1))
+  where
+    go : (b : Bool) → c .1 ≡ b → firstOf l ≤ top → firstOf (c ∷ l) ≤ top
+    go true q rest = omega (arith, first-true c l q, h .0)
+    go false q rest = omega (arith, first-false c l q)
 
 module _ (sheet : List ℕ) where
   abbrev x : Stated
@@ -102,6 +120,17 @@ module _ (sheet : List ℕ) where
   marked-first word marks zeros ones zero e = absurd (never-zero e)
   marked-first word marks zeros ones (suc q) e =
       sym (entry-sheet (refusalsOf sheet) x (markedConditions x word marks zeros ones) _ _ (zeros, ones) (suc q) (omega arith) (sym e))
+
+  pub shortened-first : (m : ℕ) (input out : List ℕ) (r : ℕ) → judgeOf sheet ≡ refused r
+      → (encodeShortenedOf sheet m input out ≡ (refused r, out)) × (readShortenedOf sheet m input out ≡ (refused r, out))
+      × (decodeShortenedOf sheet m input out ≡ (refused r, out))
+  unfolding encodeShortenedEntry readShortenedEntry decodeShortenedEntry
+  shortened-first m input out zero e = absurd (never-zero e)
+  shortened-first m input out (suc q) e = let r : ℕ = suc q in let h : 0 < suc q = omega arith in (
+    sym (sheet-before (refusalsOf sheet) (shorteningConditions m x) (encodeShortenedConditions m x input out) x _ _ out r h (sym e)),
+    sym (sheet-before (refusalsOf sheet) (shorteningConditions m x) (readShortenedConditions m x input out) x _ _ out r h (sym e)),
+    sym (sheet-before (refusalsOf sheet) (shorteningConditions m x) (decodeShortenedConditions m x input out) x _ _ out r h (sym e)),
+  )
 
   -- ---- card
   pub card-writes : (out : List ℕ) → length out ≡ 1024
@@ -252,3 +281,38 @@ module _ (sheet : List ℕ) where
                   )),
             )),
       )
+
+  -- ---- 16
+  module _ (m : ℕ) where
+    sixteen-own : (own : Conditions) → firstOf own ≤ 15
+        → (firstOf (refusalsToShorten sheet m ++ own) ≡ 16) ↔ (IsAccepted sheet × WrongShortening m x)
+    sixteen-own own h =
+        let e : firstOf (refusalsToShorten sheet m ++ own) ≡ firstOf (refusalsOf sheet ++ (shorteningConditions m x ++ own)) =
+        ap firstOf (append-assoc (refusalsOf sheet) (shorteningConditions m x) own) in
+        let w = own-first (shorteningConditions m x ++ own) 16 (omega arith) in (
+          λ q. (let z = w .0 (sym e ∙ q) in (is-accepted (z .0), shortening-said sheet m .0 (wrong (wrongShortening m x) refl (z .1)))),
+          λ s. e ∙ w .1 (accepted-is (s .0), first-true (16, wrongShortening m x) own (shortening-said sheet m .1 (s .1))),
+        )
+      where
+        wrong : (b : Bool) → wrongShortening m x ≡ b → firstOf (shorteningConditions m x ++ own) ≡ 16 → wrongShortening m x ≡ true
+        wrong true q z = q
+        wrong false q z = absurd (omega (arith, h, first-false (16, wrongShortening m x) own q, z))
+
+    pub sixteen-iff : (input out : List ℕ)
+        → ((encodeShortenedOf sheet m input out .0 .number ≡ 16) ↔ (IsAccepted sheet × WrongShortening m x))
+        × ((readShortenedOf sheet m input out .0 .number ≡ 16) ↔ (IsAccepted sheet × WrongShortening m x))
+        × ((decodeShortenedOf sheet m input out .0 .number ≡ 16) ↔ (IsAccepted sheet × WrongShortening m x))
+    unfolding encodeShortenedEntry readShortenedEntry decodeShortenedEntry encodeShortenedConditions readShortenedConditions decodeShortenedConditions
+    sixteen-iff input out = (
+      by (encodeShortenedConditions m x input out) _ _ (first-most 15 (encodeShortenedConditions m x input out) (omega arith, (omega arith, (omega arith, tt)))),
+      by (readShortenedConditions m x input out) _ _ (first-most 15 (readShortenedConditions m x input out) (omega arith, (omega arith, (omega arith, (omega arith, tt))))),
+      by (decodeShortenedConditions m x input out) _ _ (first-most 15 (decodeShortenedConditions m x input out) (omega arith, (omega arith, (omega arith, (omega arith, tt))))),
+    )
+      where
+        by : (own : Conditions) (v w : List ℕ) → firstOf own ≤ 15
+            → (settle (firstOf (refusalsToShorten sheet m ++ own)) v w out .0 .number ≡ 16) ↔ (IsAccepted sheet × WrongShortening m x)
+        by own v w h =
+            let e = settle-number (firstOf (refusalsToShorten sheet m ++ own)) v w out in (
+              λ q. sixteen-own own h .0 (sym e ∙ q),
+              λ s. e ∙ sixteen-own own h .1 s,
+            )

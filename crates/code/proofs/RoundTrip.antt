@@ -13,7 +13,7 @@
 --   codewords-distinct   distinct messages have distinct codewords
 --   message-message, encode-back      a codeword is what encoding makes of the message that reading gives
 --   none-refused         a word that is no codeword is refused with 14
-use mathlib.Core.Path.{_≡_, refl, sym, ap, _∙_}
+use mathlib.Core.Path.{_≡_, refl, sym, ap, ap₂, _∙_}
 use mathlib.Core.Logic.{_↔_}
 use mathlib.Core.Bool.{Bool, true, false, not}
 use mathlib.Core.List.{List, [], _∷_}
@@ -41,7 +41,7 @@ use Rattle.codeword.proofs.Places.{Weights, word-weights, message-weights, mask
 use Rattle.codeword.specs.Codewords.{Usable, RemainderTested}
 use Rattle.code.specs.Published.{Bytes}
 use Rattle.code.proofs.Accepted.{usable}
-use Rattle.code.proofs.Entries.{encode-accepted, read-accepted, encode-done, read-none, read-done}
+use Rattle.code.proofs.Entries.{encode-accepted, read-accepted, unshortened-encoding, unshortened-reading, encode-done, read-none, read-done}
 
 -- places of n in bytes: as many as they take, and no spare bit
 pub record Placed (weight : ℕ → ℕ) (n : ℕ) (bytes : List ℕ) : Type 0 where
@@ -132,12 +132,26 @@ module _ (kind : Kind) (sheet : List ℕ) where
     unfolding dimensionOf generatorOf
     codeword-raised j c = raised-is l (x .representatives) j c
 
+    -- ---- all places are sent
+    bits-all : k - 0 ≡ k
+    bits-all = omega arith
+
+    places-all : n - 0 ≡ n
+    places-all = omega arith
+
+    split-all : n - k + (k - 0) ≡ n
+    split-all = omega (arith, u .k-le)
+
     -- ---- encoding
     pub encodes : {message : List ℕ} (out : List ℕ) → Message message → length out ≡ bytesFor n
         → (returned (0 ∷ []), codewordOf message) ≡ encodeEntry refusals x message out
     unfolding encodedWord dimensionOf generatorOf
     encodes {message} out m b =
-        encode-done u message out (m .long) b (m .clear) (record { is = refl }) .is x refl refl ∙ encode-accepted refusals x message out quiet
+        encode-done u {m = 0} (omega (arith, u .k-pos)) message out (m .long ∙ ap bytesFor (sym bits-all)) (b ∙ ap bytesFor (sym places-all))
+        (ap (λ (i : ℕ). spare messageWeight i message) bits-all ∙ m .clear)
+        (record { is = ap₂ (λ (i j : ℕ). bytesOf wordWeight i (encodeMask (n - k) g (maskOf messageWeight j message))) (sym split-all) (sym bits-all) })
+        .is x refl refl
+        ∙ unshortened-encoding x message out ∙ encode-accepted refusals x message out quiet
 
     pub codeword-word : (message : List ℕ) → Word (codewordOf message)
     codeword-word message = placed-bytes word-weights n (encodedWord x message) (encoded-lt message)
@@ -178,19 +192,20 @@ module _ (kind : Kind) (sheet : List ℕ) where
     codeword-representatives c = representatives-iff l (x .representatives) c
 
     -- ---- reading out
-    tested : (word : List ℕ) (r : Bool) → r ≡ not (isCodeword (n - k) g (wordOf x word)) → RemainderTested n (x .representatives) word r
+    tested : (word : List ℕ) (r : Bool) → r ≡ not (isCodeword (n - k) g (wordOf x word)) → RemainderTested n (n - 0) (x .representatives) word r
     unfolding dimensionOf generatorOf
-    tested word r q = record { is = q }
+    tested word r q = record { is = q ∙ ap (λ (i : ℕ). not (isCodeword (n - k) g (maskOf wordWeight i word))) (sym places-all) }
 
-    whole : n - k + k ≡ n
-    whole = omega (arith, u .k-le)
+    clear-all : {word : List ℕ} → Word word → spare wordWeight (n - 0) word ≡ false
+    clear-all {word} w = ap (λ (i : ℕ). spare wordWeight i word) places-all ∙ w .clear
 
     pub reads : {word : List ℕ} (out : List ℕ) → Word word → length out ≡ bytesFor k → isCodeword (n - k) g (wordOf x word) ≡ true
         → (returned (0 ∷ []), messageIn word) ≡ readEntry refusals x word out
     reads {word} out w b c =
-        read-done u word out (w .long) b (w .clear) {r = false} (tested word false (sym (ap not c))) refl
-        (record { is = ap (λ (y : ℕ). bytesOf messageWeight k (messageOf (n - k) (maskOf wordWeight y word))) (sym whole) }) .is x refl refl
-        ∙ read-accepted refusals x word out quiet
+        read-done u {m = 0} (omega (arith, u .k-pos)) word out (w .long ∙ ap bytesFor (sym places-all)) (b ∙ ap bytesFor (sym bits-all)) (clear-all w) {r = false}
+        (tested word false (sym (ap not c))) refl
+        (record { is = ap₂ (λ (i j : ℕ). bytesOf messageWeight j (messageOf (n - k) (maskOf wordWeight i word))) (sym split-all) (sym bits-all) }) .is x refl refl
+        ∙ unshortened-reading x word out ∙ read-accepted refusals x word out quiet
 
     pub message-back : {message : List ℕ} → Message message → Bytes message → messageIn (codewordOf message) ≡ message
     unfolding encodedWord
@@ -223,5 +238,6 @@ module _ (kind : Kind) (sheet : List ℕ) where
     pub none-refused : {word : List ℕ} (out : List ℕ) → Word word → length out ≡ bytesFor k → isCodeword (n - k) g (wordOf x word) ≡ false
         → (refused 14, out) ≡ readEntry refusals x word out
     none-refused {word} out w b c =
-        read-none u word out (w .long) b (w .clear) {r = true} (tested word true (sym (ap not c))) refl .is x refl refl
-        ∙ read-accepted refusals x word out quiet
+        read-none u {m = 0} (omega (arith, u .k-pos)) word out (w .long ∙ ap bytesFor (sym places-all)) (b ∙ ap bytesFor (sym bits-all)) (clear-all w) {r = true}
+        (tested word true (sym (ap not c))) refl .is x refl refl
+        ∙ unshortened-reading x word out ∙ read-accepted refusals x word out quiet

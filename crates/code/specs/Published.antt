@@ -1,4 +1,4 @@
--- What document 01 publishes, with document 02's layout of words, rule 3, choice of a certificate and words with marked places, as statements: the words in which
+-- What document 01 publishes, with document 02's layout of words, rule 3, choice of a certificate, words with marked places and shortened codes, as statements: the words in which
 -- proofs/Demands.antt says the three demands and the requests. The conditions of a certificate have no search in them; s, k, the generator and the working certificate,
 -- which the definitions search for or compute, are named, and fields of the demands say what they are (degree, dimension, generator, working).
 --
@@ -11,7 +11,10 @@
 --   Rule1 .. Rule4, Published      the rules of a certificate
 --   Rounded, Working, WorkingIs      d, and the working certificate with d, t and its number of terms
 --   MarkedCall                     a call of decoding with marks that draws none of 1 to 12
+--   ShortenedSheet m               an accepted sheet, and an m that may be left out (2026-06)
+--   ShortenedWord, ShortenedMessage      words and messages of a shortened code in bytes
 --   Systematic, WordDecoded, WordShown      what encoding, decoding, and decoding with marks write
+--   ShortenedSystematic, ShortenedDecoded      the same of a shortened code
 --   kept m g k a j                 what is kept after the highest j of the k bits of a (2026-02)
 -- No contract of an entry cites this file.
 use mathlib.Core.Path.{_≡_}
@@ -25,12 +28,13 @@ use Rattle.field.specs.Field.{fieldPower, orderOfTwo, α}
 use Rattle.document.specs.Answer.{Answer}
 use Rattle.document.specs.Layout.{wordWeight, messageWeight, place, maskOf}
 use Rattle.document.specs.Sheet.{Certificate, Stated, certificateAt}
-use Rattle.document.specs.Generator.{valueAt}
+use Rattle.document.specs.Generator.{valueAt, differences}
 use Rattle.document.specs.Apart.{productAt, atRoot}
 use Rattle.document.specs.Certificate.{distance, radius}
 use Rattle.document.specs.Judge.{dimensionOf}
 use Rattle.document.specs.Entry.{generatorOf, radiusOf, CodewordOf, wordOf, changed}
 use Rattle.document.specs.Marked.{unmarkedChanged, WithinMarks, shownOf}
+use Rattle.document.specs.Shortened.{sentWordOf, sentMessageOf, ShortenedCodeword}
 use Rattle.document.specs.Short.{byteAt, stated, judgeOf}
 
 -- ---- the words
@@ -229,3 +233,34 @@ pub record WordShown (x : Stated) (word marks : List ℕ) (reply : Answer × (Li
   pub zeros-first : (trial ≡ 0) ↔ (wordOf x (reply .1 .0) ≡ wordOf x shown)
   pub else-ones : trial ≢ 0 → trial ≡ 1
   pub others : (c : ℕ) → CodewordOf x c → c ≢ wordOf x shown → ¬ WithinMarks x word marks c
+
+-- ---- shortened codes (2026-06)
+pub record ShortenedSheet (sheet : List ℕ) (m : ℕ) : Type 0 where
+  pub accepted : IsAccepted sheet
+  pub some : 0 < m
+  pub less : m < dimensionOf (stated sheet)
+
+-- "messages have k - m bits and words n - m"
+abbrev pub ShortenedWord : ℕ → Stated → List ℕ → Type 0
+ShortenedWord m x = Places wordWeight (x .n - m)
+
+abbrev pub ShortenedMessage : ℕ → Stated → List ℕ → Type 0
+ShortenedMessage m x = Places messageWeight (dimensionOf x - m)
+
+-- the word that a message is encoded into: as Systematic, without the top m places
+pub record ShortenedSystematic (m : ℕ) (x : Stated) (message word : List ℕ) : Type 0 where
+  pub is-word : ShortenedWord m x word
+  pub is-bytes : Bytes word
+  pub is-codeword : ShortenedCodeword m x (sentWordOf m x word)
+  pub high : (i : ℕ) → i < dimensionOf x - m → place wordWeight word (x .n - dimensionOf x + i) ≡ place messageWeight message i
+  pub low : sentWordOf m x word % 2 ^ (x .n - dimensionOf x)
+      ≡ remainder (x .n - dimensionOf x) (generatorOf x) (sentMessageOf m x message * 2 ^ (x .n - dimensionOf x))
+
+-- the buffer after decoding, and what is returned: as WordDecoded, among the shortened codewords; and no other codeword at all is so near
+pub record ShortenedDecoded (m : ℕ) (x : Stated) (word : List ℕ) (reply : Answer × List ℕ) : Type 0 where
+  pub is-word : ShortenedWord m x (reply .1)
+  pub is-bytes : Bytes (reply .1)
+  pub is-codeword : ShortenedCodeword m x (sentWordOf m x (reply .1))
+  pub near : differences (x .n) (sentWordOf m x word) (sentWordOf m x (reply .1)) ≤ radiusOf x
+  pub counted : reply .0 .values ≡ differences (x .n) (sentWordOf m x word) (sentWordOf m x (reply .1)) ∷ []
+  pub others : (c : ℕ) → CodewordOf x c → c ≢ sentWordOf m x (reply .1) → radiusOf x < differences (x .n) (sentWordOf m x word) c

@@ -2,10 +2,12 @@
 --
 --   WrongSheetLength .. NoMessage      the conditions 1 to 6 of a sheet
 --   WrongBufferLength, SpareBit, NoneNear, NoneWithMarks      11, 12, 13 and 15
+--   WrongShortening, NoneNearShortened      16, and 13 of a shortened code
 --   NoneNearSaid, NoCodewordSaid, NoneWithMarksSaid      what 13, 14 and 15 say
 --   certificateTurns               7 to 10, of one certificate
 --   sheetTurns sheet               1 to 10
 --   encodeTurns, readTurns, decodeTurns, markedTurns, cardTurns      all that an entry tries
+--   encodeShortenedTurns, readShortenedTurns, decodeShortenedTurns      the same of shortened codes
 --   lastRefusal; Answered turns reply before      what an entry answers by them, and what it leaves in the lent buffers
 -- No contract of an entry cites this file.
 use mathlib.Core.Path.{_≡_}
@@ -17,8 +19,10 @@ use Rattle.document.specs.Answer.{Answer}
 use Rattle.document.specs.Layout.{wordWeight, messageWeight, place}
 use Rattle.document.specs.Sheet.{Certificate, Stated}
 use Rattle.document.specs.Judge.{dimensionOf}
+use Rattle.document.specs.Generator.{differences}
 use Rattle.document.specs.Entry.{CodewordOf, radiusOf, wordOf, changed}
 use Rattle.document.specs.Marked.{WithinMarks}
+use Rattle.document.specs.Shortened.{sentWordOf, ShortenedCodeword}
 use Rattle.document.specs.Short.{byteAt, stated}
 use Rattle.code.specs.Turns.{Turns, FirstThatHolds, NoneHolds}
 use Rattle.code.specs.Published.{IsAccepted, InDefiningSet, Rule1, Rule2, Rule3, Rule4}
@@ -138,6 +142,38 @@ markedOwn x word marks zeros ones =
     ∷ (15, NoneWithMarks x word marks)
     ∷ []
 
+-- 16 (2026-06): "an m of 0 or not below k"
+abbrev pub WrongShortening : ℕ → Stated → Type 0
+WrongShortening m x = (m ≡ 0) ⊎ (dimensionOf x ≤ m)
+
+-- 13 of a shortened code: "the only shortened codeword within t, and 13 exactly if there is none"
+abbrev pub NoneNearShortened : ℕ → Stated → List ℕ → Type 0
+NoneNearShortened m x word = (c : ℕ) → ShortenedCodeword m x c → radiusOf x < differences (x .n) (sentWordOf m x word) c
+
+-- "messages have k - m bits and words n - m"
+abbrev pub encodeShortenedOwn : ℕ → Stated → List ℕ → List ℕ → Turns
+encodeShortenedOwn m x message out =
+    (11, WrongBufferLength (dimensionOf x - m) message)
+    ∷ (11, WrongBufferLength (x .n - m) out)
+    ∷ (12, SpareBit messageWeight (dimensionOf x - m) message)
+    ∷ []
+
+abbrev pub readShortenedOwn : ℕ → Stated → List ℕ → List ℕ → Turns
+readShortenedOwn m x word out =
+    (11, WrongBufferLength (x .n - m) word)
+    ∷ (11, WrongBufferLength (dimensionOf x - m) out)
+    ∷ (12, SpareBit wordWeight (x .n - m) word)
+    ∷ (14, ¬ ShortenedCodeword m x (sentWordOf m x word))
+    ∷ []
+
+abbrev pub decodeShortenedOwn : ℕ → Stated → List ℕ → List ℕ → Turns
+decodeShortenedOwn m x word out =
+    (11, WrongBufferLength (x .n - m) word)
+    ∷ (11, WrongBufferLength (x .n - m) out)
+    ∷ (12, SpareBit wordWeight (x .n - m) word)
+    ∷ (13, NoneNearShortened m x word)
+    ∷ []
+
 abbrev pub encodeTurns : List ℕ → List ℕ → List ℕ → Turns
 encodeTurns sheet message out = sheetTurns sheet ++ encodeOwn (stated sheet) message out
 
@@ -149,6 +185,19 @@ decodeTurns sheet word out = sheetTurns sheet ++ decodeOwn (stated sheet) word o
 
 abbrev pub markedTurns : List ℕ → List ℕ → List ℕ → List ℕ → List ℕ → Turns
 markedTurns sheet word marks zeros ones = sheetTurns sheet ++ markedOwn (stated sheet) word marks zeros ones
+
+-- "Refusal 16, after the sheet's and before 11"
+abbrev pub shortenedTurns : List ℕ → ℕ → Turns
+shortenedTurns sheet m = sheetTurns sheet ++ (16, WrongShortening m (stated sheet)) ∷ []
+
+abbrev pub encodeShortenedTurns : List ℕ → ℕ → List ℕ → List ℕ → Turns
+encodeShortenedTurns sheet m message out = shortenedTurns sheet m ++ encodeShortenedOwn m (stated sheet) message out
+
+abbrev pub readShortenedTurns : List ℕ → ℕ → List ℕ → List ℕ → Turns
+readShortenedTurns sheet m word out = shortenedTurns sheet m ++ readShortenedOwn m (stated sheet) word out
+
+abbrev pub decodeShortenedTurns : List ℕ → ℕ → List ℕ → List ℕ → Turns
+decodeShortenedTurns sheet m word out = shortenedTurns sheet m ++ decodeShortenedOwn m (stated sheet) word out
 
 -- what 13 says, 14 and 15, whatever was handed over
 pub record NoneNearSaid (sheet word out : List ℕ) : Type 0 where
@@ -181,12 +230,12 @@ cardTurns out = (11, length out ≢ 1024) ∷ []
 
 -- the last number: "Demand 1's fourteen refusals grow by those numbered in these requests."
 abbrev pub lastRefusal : ℕ
-lastRefusal = 15
+lastRefusal = 16
 
 -- "A refusal returns its number alone and changes no lent byte. Each has one condition and is returned only then." B: the bytes of one
 -- lent buffer, or of two
 pub record Answered {B : Type 0} (turns : Turns) (reply : Answer × B) (before : B) : Type 0 where
-  -- the number is 0, or 1 to 15
+  -- the number is 0, or 1 to 16
   pub range : reply .0 .number ≤ lastRefusal
   -- 0 exactly when no condition holds
   pub done : (reply .0 .number ≡ 0) ↔ NoneHolds turns

@@ -1,10 +1,14 @@
-// The entries, each for any input: judge, encode, read, decode, decode_marked with shown, and card; and the numbers of refusals.
+// The entries, each for any input: judge, encode, read and decode, these three of shortened codes too, decode_marked with shown, and card; and
+// the numbers of refusals.
 
 // the documents' numbers of refusals
 pub mod refusal;
 
 // every entry's first step
 mod judged;
+
+// how many places may be left out
+mod shortening;
 
 // a sheet to its record
 pub mod judge;

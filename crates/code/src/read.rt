@@ -1,13 +1,14 @@
-// Reading out: 11, 12 and 14 for an accepted sheet, then the message in the high places of a codeword.
+// Reading out: 11, 12 and 14 for an accepted sheet, then the message in the high places of a codeword; of a shortened code too.
 ghost use mathlib.Core.Path.{_≡_};
 ghost use mathlib.Core.List.{[]};
-ghost use Prim.Native.Nat.{_≤_};
+ghost use Prim.Native.Nat.{_≤_, _<_};
 ghost use Rattle.document.specs.Answer.{repliedAs};
-ghost use Rattle.document.specs.Entry.{readEntry};
-ghost use Rattle.document.specs.Short.{readOf};
+ghost use Rattle.document.specs.Shortened.{readShortenedEntry};
+ghost use Rattle.document.specs.Short.{readOf, readShortenedOf};
 ghost use Rattle.codeword.specs.Codewords.{Usable};
 ghost use Rattle.code.specs.Stating.{Stating};
 use crate::judged::judge_into;
+use crate::shortening::wrong_shortening;
 use codeword::layout::bytes_for;
 use codeword::layout::spare_word;
 use codeword::test::no_codeword;
@@ -17,25 +18,28 @@ use document::types::Refusal;
 use document::types::Reply;
 use sheet::read::representative_count;
 
-// Refusals 11, 12 and 14, and the message where none is drawn.
+// Refusals 11, 12 and 14, and the message where none is drawn. The top places that are not sent, and as many top bits of the message, are 0.
 fn read_accepted(
     n: usize,
     k: usize,
+    unsent: usize,
     s: usize,
     representatives: &[u16],
     word: &[u8],
     out: &mut [u8],
 ) -> Reply
-    requires { ⌜ Usable n k s (now representatives) × (n ≤ 127) ⌝ }
-    ensures { λ r. ⌜ Stating n (now (representatives .entry)) (λ x. readEntry [] x (now (word .entry)) (now (out .entry))) (repliedAs r, now (out .exit)) ⌝ }
+    requires { ⌜ Usable n k s (now representatives) × (n ≤ 127) × (unsent < k) ⌝ }
+    ensures { λ r. ⌜ Stating n (now (representatives .entry)) (λ x. readShortenedEntry [] unsent x (now (word .entry)) (now (out .entry))) (repliedAs r, now (out .exit)) ⌝ }
 {
-    if word.len() != bytes_for(n) {
+    let sent = n - unsent;
+    let bits = k - unsent;
+    if word.len() != bytes_for(sent) {
         return Reply::Refused(Refusal::BufferLength);
     }
-    if out.len() != bytes_for(k) {
+    if out.len() != bytes_for(bits) {
         return Reply::Refused(Refusal::BufferLength);
     }
-    if spare_word(n, word) {
+    if spare_word(sent, word) {
         return Reply::Refused(Refusal::SpareBit);
     }
     let mut feedback = [0u64; 2];
@@ -46,6 +50,7 @@ fn read_accepted(
         representatives,
         n,
         k,
+        sent,
         s,
         word,
         &mut feedback,
@@ -55,7 +60,7 @@ fn read_accepted(
     ) {
         return Reply::Refused(Refusal::NoCodeword);
     }
-    write_message(word, n - k, k, out);
+    write_message(word, n - k, bits, out);
     Reply::Done(0)
 }
 
@@ -72,6 +77,33 @@ pub fn read(sheet: &[u8], word: &[u8], out: &mut [u8]) -> Reply
             read_accepted(
                 a.n as usize,
                 a.k as usize,
+                0,
+                a.s as usize,
+                &representatives[..count],
+                word,
+                out,
+            )
+        }
+    }
+}
+
+// The same for a code shortened by m: of the n - m places that were sent, the k - m bits of the message.
+pub fn read_short(sheet: &[u8], m: usize, word: &[u8], out: &mut [u8]) -> Reply
+    ensures { λ r. ⌜ (repliedAs r, now (out .exit)) ≡ readShortenedOf (now (sheet .entry)) m (now (word .entry)) (now (out .entry)) ⌝ }
+{
+    let mut representatives = [0u16; 32];
+    let judged = judge_into(sheet, &mut representatives);
+    match judged {
+        Judged::Refused(r) => Reply::Refused(r),
+        Judged::Accepted(a) => {
+            if wrong_shortening(m, a.k as usize) {
+                return Reply::Refused(Refusal::Shortening);
+            }
+            let count = representative_count(sheet);
+            read_accepted(
+                a.n as usize,
+                a.k as usize,
+                m,
                 a.s as usize,
                 &representatives[..count],
                 word,

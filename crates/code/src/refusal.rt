@@ -23,5 +23,6 @@ pub fn refusal_number(r: Refusal) -> usize
         Refusal::NoneNear => 13,
         Refusal::NoCodeword => 14,
         Refusal::NoneWithMarks => 15,
+        Refusal::Shortening => 16,
     }
 }

@@ -54,8 +54,9 @@ pub for-most : (n : ℕ) → bytesFor n * 8 ≤ n + 7
 unfolding bytesFor
 for-most n = omega arith
 
-pub split-long : (n k : ℕ) {x : ℕ} → k ≤ n → x ≡ bytesFor n → x ≡ bytesFor (n - k + k)
-split-long n k h e = let q : n ≡ n - k + k = omega arith in e ∙ ap bytesFor q
+-- what is sent of a word is the message's bits and the remainder
+pub split-long : (n k m : ℕ) {x : ℕ} → m ≤ k → k ≤ n → x ≡ bytesFor (n - m) → x ≡ bytesFor (n - k + (k - m))
+split-long n k m l h e = let q : n - m ≡ n - k + (k - m) = omega arith in e ∙ ap bytesFor q
 
 -- ---- the generator as feedback
 module _ (reps f : List ℕ) {n m : ℕ} {f₁ f₂ r₂ : List ℕ} (l : Length n) (em : m ≡ n - dimension n reps) (room : n ≤ placesIn f)
@@ -86,12 +87,12 @@ not-none p k = elim (ℕ-discrete p 0) [
   | no e ↦ ne-eqb (p * 2 ^ k) 0 (λ z. e (sym (shl-shr p k) ∙ ap (λ (x : ℕ). x / 2 ^ k) z ∙ zero-div (2 ^ k))) ∙ sym (ne-eqb p 0 e)
 ]
 
-pub tested : {n : ℕ} {reps word f r₀ r : List ℕ} {b : Bool} → Length n → FeedbackMade n reps f r₀
-    → Taken (maskOf wordWeight n word) 0 f r → b ≡ eqb (packed r) 0 → RemainderTested n reps word (not b)
+pub tested : {n sent : ℕ} {reps word f r₀ r : List ℕ} {b : Bool} → Length n → FeedbackMade n reps f r₀
+    → Taken (maskOf wordWeight sent word) 0 f r → b ≡ eqb (packed r) 0 → RemainderTested n sent reps word (not b)
 unfolding isCodeword
-tested {n} {reps} {word} {f} {r₀} {r} {b} l t a e =
+tested {n} {sent} {reps} {word} {f} {r₀} {r} {b} l t a e =
     let m : ℕ = n - dimension n reps in
-    let c : ℕ = maskOf wordWeight n word in
+    let c : ℕ = maskOf wordWeight sent word in
     let h = a .holds (t .feedback) in
     record {
       is = ap not
@@ -197,21 +198,21 @@ placing-more {message} {m} {j} {i₀} {x} {v} {r} {out} t e w q h = record {
 pub placing-end : {message : List ℕ} {m j : ℕ} {r out : List ℕ} → length out ≤ j → Placing message m r j out → PlacesWritten message m r out
 placing-end h t = record { at = λ u i l. t .at u i (omega arith) }
 
-pub encoded-bytes : {n k s m : ℕ} {reps message f r₀ r out₀ out : List ℕ} → Usable n k s reps → Encodable n k message out₀ → m ≡ n - k
-    → FeedbackMade n reps f r₀ → Taken (maskOf messageWeight k message) 0 f r → PlacesWritten message m r out → length out ≡ length out₀
-    → ((i : ℕ) → getD out i 0 < 256) → CodewordWritten n k reps message out
+pub encoded-bytes : {n k s m sent bits : ℕ} {reps message f r₀ r out₀ out : List ℕ} → Usable n k s reps → Encodable sent bits message out₀ → m ≡ n - k
+    → FeedbackMade n reps f r₀ → Taken (maskOf messageWeight bits message) 0 f r → PlacesWritten message m r out → length out ≡ length out₀
+    → ((i : ℕ) → getD out i 0 < 256) → CodewordWritten n sent bits reps message out
 unfolding encodeMask
-encoded-bytes {n} {k} {s} {m} {reps} {message} {f} {r₀} {r} {out₀} {out} u c em t a p long bytes =
+encoded-bytes {n} {k} {s} {m} {sent} {bits} {reps} {message} {f} {r₀} {r} {out₀} {out} u c em t a p long bytes =
     let is : m ≡ n - dimension n reps = em ∙ ap (λ (x : ℕ). n - x) (u .k-is) in
-    let h : TopHolds (n - dimension n reps) (remainder (n - dimension n reps) (generator n reps) (maskOf messageWeight k message * 2 ^ (n - dimension n reps))) r =
-    subst (λ (x : ℕ). TopHolds (n - dimension n reps) (remainder (n - dimension n reps) (generator n reps) (x * 2 ^ (n - dimension n reps))) r) (div-one (maskOf messageWeight k message))
+    let h : TopHolds (n - dimension n reps) (remainder (n - dimension n reps) (generator n reps) (maskOf messageWeight bits message * 2 ^ (n - dimension n reps))) r =
+    subst (λ (x : ℕ). TopHolds (n - dimension n reps) (remainder (n - dimension n reps) (generator n reps) (x * 2 ^ (n - dimension n reps))) r) (div-one (maskOf messageWeight bits message))
     (a .holds (t .feedback)) in
-    let w : wholeMask messageWeight message ≡ maskOf messageWeight k message = whole-is messageWeight k message (c .message-long) (c .no-spare) in
+    let w : wholeMask messageWeight message ≡ maskOf messageWeight bits message = whole-is messageWeight bits message (c .message-long) (c .no-spare) in
     let q : PlacesWritten message (n - dimension n reps) r out = subst (λ (x : ℕ). PlacesWritten message x r out) is p in
     record {
-      is = bytes-same word-weights n (encodeMask (n - dimension n reps) (generator n reps) (maskOf messageWeight k message)) out (long ∙ c .out-long) bytes
+      is = bytes-same word-weights sent (encodeMask (n - dimension n reps) (generator n reps) (maskOf messageWeight bits message)) out (long ∙ c .out-long) bytes
           (λ i b. q .at h i (omega (arith, long, c .out-long))
-          ∙ ap (λ (x : ℕ). coefficient i (x * 2 ^ (n - dimension n reps) + remainder (n - dimension n reps) (generator n reps) (maskOf messageWeight k message * 2 ^ (n - dimension n reps)))) w);
+          ∙ ap (λ (x : ℕ). coefficient i (x * 2 ^ (n - dimension n reps) + remainder (n - dimension n reps) (generator n reps) (maskOf messageWeight bits message * 2 ^ (n - dimension n reps)))) w);
     }
 
 -- ---- reading out

@@ -4,11 +4,11 @@
 --   Usable n k s reps       one that has messages, with its k
 --   Fresh n s f r e g       slices for a code of length n: f and r hold 0, and e and g have room for tables
 --   FeedbackMade n reps f r      f holds the generator as a register's feedback, and r holds 0
---   RemainderTested n reps word r      r says whether a word is no codeword
---   Encodable n k message out     lengths of a message without spare bits and of its codeword
+--   RemainderTested n sent reps word r      r says whether a word of so many places, with zeros above, is no codeword
+--   Encodable sent bits message out     lengths of a message without spare bits and of its codeword
 --   EightOf message m r i x       x is eight places from i on of the word that has the message above what the register r holds
 --   PlacesWritten message m r out      the bytes of that word
---   CodewordWritten n k reps message out      the bytes of a message's codeword
+--   CodewordWritten n sent bits reps message out      so many places of the codeword of a message of so many bits, with zeros above
 --   Readable, MessageRead   the same for reading out; BytesRead m count word out out′: its first whole bytes
 use mathlib.Core.Path.{_≡_}
 use mathlib.Core.Bool.{Bool, false, not}
@@ -49,13 +49,13 @@ pub record FeedbackMade (n : ℕ) (reps f r : List ℕ) : Type 0 where
   pub feedback : Feedback (n - dimension n reps) (generator n reps) f
   pub empty : packed r ≡ 0
 
-pub record RemainderTested (n : ℕ) (reps word : List ℕ) (r : Bool) : Type 0 where
-  pub is : r ≡ not (isCodeword (n - dimension n reps) (generator n reps) (maskOf wordWeight n word))
+pub record RemainderTested (n sent : ℕ) (reps word : List ℕ) (r : Bool) : Type 0 where
+  pub is : r ≡ not (isCodeword (n - dimension n reps) (generator n reps) (maskOf wordWeight sent word))
 
-pub record Encodable (n k : ℕ) (message out : List ℕ) : Type 0 where
-  pub message-long : length message ≡ bytesFor k
-  pub no-spare : spare messageWeight k message ≡ false
-  pub out-long : length out ≡ bytesFor n
+pub record Encodable (sent bits : ℕ) (message out : List ℕ) : Type 0 where
+  pub message-long : length message ≡ bytesFor bits
+  pub no-spare : spare messageWeight bits message ≡ false
+  pub out-long : length out ≡ bytesFor sent
 
 pub record EightOf (message : List ℕ) (m : ℕ) (r : List ℕ) (i x : ℕ) : Type 0 where
   pub small : x < 256
@@ -65,8 +65,8 @@ pub record PlacesWritten (message : List ℕ) (m : ℕ) (r out : List ℕ) : Typ
   pub at : {p : ℕ} → TopHolds m p r → (i : ℕ) → i < length out * 8
       → place wordWeight out i ≡ coefficient i (wholeMask messageWeight message * 2 ^ m + p)
 
-pub record CodewordWritten (n k : ℕ) (reps message out : List ℕ) : Type 0 where
-  pub is : out ≡ bytesOf wordWeight n (encodeMask (n - dimension n reps) (generator n reps) (maskOf messageWeight k message))
+pub record CodewordWritten (n sent bits : ℕ) (reps message out : List ℕ) : Type 0 where
+  pub is : out ≡ bytesOf wordWeight sent (encodeMask (n - dimension n reps) (generator n reps) (maskOf messageWeight bits message))
 
 pub record Readable (m k : ℕ) (word out : List ℕ) : Type 0 where
   pub word-long : length word ≡ bytesFor (m + k)

@@ -1,5 +1,5 @@
 // Codewords and messages written into bytes.
-ghost use Prim.Native.Nat.{_+_, _*_, _<_, _≤_};
+ghost use Prim.Native.Nat.{_+_, _-_, _*_, _<_, _≤_};
 ghost use lib.ListN.{length};
 ghost use Rattle.binary.specs.Packed.{placesIn};
 ghost use Rattle.codeword.specs.Codewords.{Usable, Fresh, Encodable, EightOf, PlacesWritten, CodewordWritten, Readable, BytesRead, MessageRead};
@@ -41,11 +41,13 @@ fn write_places(message: &[u8], m: usize, register: &[u64], out: &mut [u8])
     }
 }
 
-// The codeword of a message without spare bits, both buffers of the right length.
+// The codeword of a message of so many bits, at most k, without spare bits: as many of its places as the message and the remainder take.
+// Those above, with the message's missing bits, are 0.
 pub fn write_codeword(
     representatives: &[u16],
     n: usize,
     k: usize,
+    bits: usize,
     s: usize,
     message: &[u8],
     out: &mut [u8],
@@ -54,8 +56,8 @@ pub fn write_codeword(
     powers: &mut [u16],
     logs: &mut [u16],
 )
-    requires { ⌜ Usable n k s (now representatives) × Encodable n k (now message) (now out) × Fresh n s (now feedback) (now register) (now powers) (now logs) ⌝ }
-    ensures { λ _. ⌜ CodewordWritten n k (now (representatives .entry)) (now (message .entry)) (now (out .exit)) ⌝ }
+    requires { ⌜ Usable n k s (now representatives) × (1 ≤ bits) × (bits ≤ k) × Encodable (n - k + bits) bits (now message) (now out) × Fresh n s (now feedback) (now register) (now powers) (now logs) ⌝ }
+    ensures { λ _. ⌜ CodewordWritten n (n - k + bits) bits (now (representatives .entry)) (now (message .entry)) (now (out .exit)) ⌝ }
 {
     make_feedback(
         representatives,
@@ -67,7 +69,7 @@ pub fn write_codeword(
         powers,
         logs,
     );
-    take_message(message, k, feedback, register);
+    take_message(message, bits, feedback, register);
     write_places(message, n - k, register, out);
 }
 

@@ -121,7 +121,8 @@ module _ {n s t : ℕ} {c : CodeCertificate} {reps e g col val a b v x lg st lo 
     setting = setting;
     tables = p .tables;
     bits = λ i. subst (λ (y : ℕ). y < 2) (sym (p .held .holds .at i)) (digit-lt (p .held .word / 2 ^ i));
-    w-long = p .held .long;
+    w-whole = p .held .whole;
+    w-most = p .held .most;
     col-long = p .space .columns-long;
     val-long = p .space .values-long;
   }

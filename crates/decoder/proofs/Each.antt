@@ -19,21 +19,21 @@ use Rattle.document.specs.Layout.{wordWeight, bytesFor, spare}
 use Rattle.decoder.specs.Decode.{Decoded, Receivable, verdictAs, part, Lined, DecodedEach}
 use Rattle.decoder.proofs.Parts.{splice, splice-long, part-here, part-before, part-after, part-long, part-whole, within, beside}
 
-pub record DecodedSome (n t : ℕ) (reps : List ℕ) (size k : ℕ) (words before verdicts-before out verdicts : List ℕ) : Type 0 where
+pub record DecodedSome (n sent t : ℕ) (reps : List ℕ) (size k : ℕ) (words before verdicts-before out verdicts : List ℕ) : Type 0 where
   pub long : length out ≡ length before
   pub verdicts-long : length verdicts ≡ length verdicts-before
   pub each : (j : ℕ) → j < k
-      → Decoded n t reps (part (j * size) size words) (part (j * size) size before) (part (j * size) size out) (verdictAs (getD verdicts j 0))
+      → Decoded n sent t reps (part (j * size) size words) (part (j * size) size before) (part (j * size) size out) (verdictAs (getD verdicts j 0))
   pub rest : (b m : ℕ) → k * size ≤ b → part b m out ≡ part b m before
 
-pub some-start : {n t : ℕ} {reps : List ℕ} (size : ℕ) {words out verdicts : List ℕ} → DecodedSome n t reps size 0 words out verdicts out verdicts
+pub some-start : {n sent t : ℕ} {reps : List ℕ} (size : ℕ) {words out verdicts : List ℕ} → DecodedSome n sent t reps size 0 words out verdicts out verdicts
 some-start size = record { long = refl; verdicts-long = refl; each = λ j h. absurd (omega arith); rest = λ b m h. refl }
 
-module _ {n t : ℕ} {reps : List ℕ} (size k : ℕ) {words before verdicts-before out verdicts : List ℕ} (room : k * size + size ≤ length before)
-    (f : DecodedSome n t reps size k words before verdicts-before out verdicts) (l : k < length verdicts) where
+module _ {n sent t : ℕ} {reps : List ℕ} (size k : ℕ) {words before verdicts-before out verdicts : List ℕ} (room : k * size + size ≤ length before)
+    (f : DecodedSome n sent t reps size k words before verdicts-before out verdicts) (l : k < length verdicts) where
   more : (new : List ℕ) (v : ℕ) → length new ≡ size
-      → Decoded n t reps (part (k * size) size words) (part (k * size) size out) new (verdictAs v)
-      → DecodedSome n t reps size (k + 1) words before verdicts-before (splice (k * size) size new out) (set verdicts k v)
+      → Decoded n sent t reps (part (k * size) size words) (part (k * size) size out) new (verdictAs v)
+      → DecodedSome n sent t reps size (k + 1) words before verdicts-before (splice (k * size) size new out) (set verdicts k v)
   more new v s y =
       let r : k * size + size ≤ length out = let q = f .long in omega arith in
       record {
@@ -42,22 +42,22 @@ module _ {n t : ℕ} {reps : List ℕ} (size k : ℕ) {words before verdicts-bef
         each = λ j h. elim (ℕ-discrete j k) [
           | yes e ↦
               subst
-              (λ (i : ℕ). Decoded n t reps (part (i * size) size words) (part (i * size) size before)
+              (λ (i : ℕ). Decoded n sent t reps (part (i * size) size words) (part (i * size) size before)
               (part (i * size) size (splice (k * size) size new out)) (verdictAs (getD (set verdicts k v) i 0))) (sym e)
               (subst
-              (λ (w : ℕ). Decoded n t reps (part (k * size) size words) (part (k * size) size before)
+              (λ (w : ℕ). Decoded n sent t reps (part (k * size) size words) (part (k * size) size before)
               (part (k * size) size (splice (k * size) size new out)) (verdictAs w)) (sym (getD-set-same verdicts k v 0 l))
               (subst
-              (λ (p : List ℕ). Decoded n t reps (part (k * size) size words) (part (k * size) size before) p (verdictAs v))
+              (λ (p : List ℕ). Decoded n sent t reps (part (k * size) size words) (part (k * size) size before) p (verdictAs v))
               (sym (part-here (k * size) size new out r s))
-              (subst (λ (p : List ℕ). Decoded n t reps (part (k * size) size words) p new (verdictAs v))
+              (subst (λ (p : List ℕ). Decoded n sent t reps (part (k * size) size words) p new (verdictAs v))
               (f .rest (k * size) size (omega arith)) y)))
           | no e ↦
               subst
-              (λ (w : ℕ). Decoded n t reps (part (j * size) size words) (part (j * size) size before)
+              (λ (w : ℕ). Decoded n sent t reps (part (j * size) size words) (part (j * size) size before)
               (part (j * size) size (splice (k * size) size new out)) (verdictAs w)) (sym (getD-set-other verdicts k j v 0 e))
               (subst
-              (λ (p : List ℕ). Decoded n t reps (part (j * size) size words) (part (j * size) size before) p (verdictAs (getD verdicts j 0)))
+              (λ (p : List ℕ). Decoded n sent t reps (part (j * size) size words) (part (j * size) size before) p (verdictAs (getD verdicts j 0)))
               (sym (part-before (k * size) size new out r s (j * size) size (beside j k size (omega arith))))
               (f .each j (omega arith)))
         ];
@@ -68,18 +68,18 @@ module _ {n t : ℕ} {reps : List ℕ} (size k : ℕ) {words before verdicts-bef
 
   -- as the code has it: the part's size q is its end less its start, and the call kept its length
   pub some-more : (q : ℕ) → q ≡ size → (new : List ℕ) (v : ℕ) → length new ≡ length (part (k * size) q out)
-      → Decoded n t reps (part (k * size) q words) (part (k * size) q out) new (verdictAs v)
-      → DecodedSome n t reps size (k + 1) words before verdicts-before (splice (k * size) q new out) (set verdicts k v)
+      → Decoded n sent t reps (part (k * size) q words) (part (k * size) q out) new (verdictAs v)
+      → DecodedSome n sent t reps size (k + 1) words before verdicts-before (splice (k * size) q new out) (set verdicts k v)
   some-more q p new v s y =
       let r : k * size + size ≤ length out = let z = f .long in omega arith in
       rw p (more new v (rw p at s ∙ part-long (k * size) size out r) (rw p at y))
 
-pub some-end : {n t : ℕ} {reps : List ℕ} (size k : ℕ) {words before verdicts-before out verdicts : List ℕ} → length verdicts ≤ k
-    → DecodedSome n t reps size k words before verdicts-before out verdicts → DecodedEach n t reps size words before out verdicts
+pub some-end : {n sent t : ℕ} {reps : List ℕ} (size k : ℕ) {words before verdicts-before out verdicts : List ℕ} → length verdicts ≤ k
+    → DecodedSome n sent t reps size k words before verdicts-before out verdicts → DecodedEach n sent t reps size words before out verdicts
 some-end size k h f = record { each = λ j l. f .each j (omega arith) }
 
 -- ---- one of the words
-module _ {n size count : ℕ} {words before : List ℕ} (w : Lined n size count words before) where
+module _ {n sent size count : ℕ} {words before : List ℕ} (w : Lined n sent size count words before) where
   pub line-room : (k : ℕ) → k < count → k * size + size ≤ length words
   line-room k h = within k count size (length words) h (w .words-long)
 
@@ -88,37 +88,39 @@ module _ {n size count : ℕ} {words before : List ℕ} (w : Lined n size count 
 
   -- as the code has it
   pub line-word : (k q : ℕ) (out : List ℕ) → k < count → q ≡ size → length out ≡ length before
-      → Receivable n (part (k * size) q words) (part (k * size) q out)
+      → Receivable n sent (part (k * size) q words) (part (k * size) q out)
   line-word k q out h p l =
       let a : k * size + size ≤ length words = line-room k h in
       let b : k * size + size ≤ length out = let c = out-room k h in omega arith in
       rw p (record {
+        some = w .some;
         word-long = part-long (k * size) size words a ∙ w .size-is;
         out-long = part-long (k * size) size out b ∙ w .size-is;
         clear = w .clear k h;
       })
 
 -- ---- a single word
-pub line-one : {n size : ℕ} {word out : List ℕ} (count : ℕ) → count ≡ 1 → size ≡ bytesFor n → length word ≡ bytesFor n → length out ≡ bytesFor n
-    → spare wordWeight n word ≡ false → Lined n size count word out
-line-one {n} {size} {word} {out} count c e a b d =
+pub line-one : {n sent size : ℕ} {word out : List ℕ} (count : ℕ) → count ≡ 1 → sent ≤ n → size ≡ bytesFor sent → length word ≡ bytesFor sent → length out ≡ bytesFor sent
+    → spare wordWeight sent word ≡ false → Lined n sent size count word out
+line-one {n} {sent} {size} {word} {out} count c l e a b d =
     let z : count * size ≡ size = ap (λ (i : ℕ). i * size) c ∙ one-mul size in
     record {
+      some = l;
       size-is = e;
       words-long = omega arith;
       out-long = omega arith;
       clear = λ k h.
           let q : k ≡ 0 = omega arith in
           let y : k * size ≡ 0 = ap (λ (i : ℕ). i * size) q ∙ omega arith in
-          ap (spare wordWeight n) (ap (λ (i : ℕ). part i size word) y ∙ part-whole size word (a ∙ sym e)) ∙ d;
+          ap (spare wordWeight sent) (ap (λ (i : ℕ). part i size word) y ∙ part-whole size word (a ∙ sym e)) ∙ d;
     }
 
-each-one : {n t : ℕ} {reps : List ℕ} (size : ℕ) {word out out′ verdicts : List ℕ} → length verdicts ≡ 1 → length word ≡ size → length out ≡ size
-    → length out′ ≡ size → DecodedEach n t reps size word out out′ verdicts → Decoded n t reps word out out′ (verdictAs (getD verdicts 0 0))
-each-one {n} {t} {reps} size {word} {out} {out′} {verdicts} l a b c y =
-    subst (λ (p : List ℕ). Decoded n t reps p out out′ (verdictAs (getD verdicts 0 0))) (at word a)
-    (subst (λ (p : List ℕ). Decoded n t reps (part (0 * size) size word) p out′ (verdictAs (getD verdicts 0 0))) (at out b)
-    (subst (λ (p : List ℕ). Decoded n t reps (part (0 * size) size word) (part (0 * size) size out) p (verdictAs (getD verdicts 0 0))) (at out′ c)
+each-one : {n sent t : ℕ} {reps : List ℕ} (size : ℕ) {word out out′ verdicts : List ℕ} → length verdicts ≡ 1 → length word ≡ size → length out ≡ size
+    → length out′ ≡ size → DecodedEach n sent t reps size word out out′ verdicts → Decoded n sent t reps word out out′ (verdictAs (getD verdicts 0 0))
+each-one {n} {sent} {t} {reps} size {word} {out} {out′} {verdicts} l a b c y =
+    subst (λ (p : List ℕ). Decoded n sent t reps p out out′ (verdictAs (getD verdicts 0 0))) (at word a)
+    (subst (λ (p : List ℕ). Decoded n sent t reps (part (0 * size) size word) p out′ (verdictAs (getD verdicts 0 0))) (at out b)
+    (subst (λ (p : List ℕ). Decoded n sent t reps (part (0 * size) size word) (part (0 * size) size out) p (verdictAs (getD verdicts 0 0))) (at out′ c)
     (y .each 0 (omega arith))))
   where
     at : (l : List ℕ) → length l ≡ size → part (0 * size) size l ≡ l
@@ -126,7 +128,7 @@ each-one {n} {t} {reps} size {word} {out} {out′} {verdicts} l a b c y =
         let z : 0 * size ≡ 0 = omega arith in
         ap (λ (i : ℕ). part i size l) z ∙ part-whole size l h
 
-module _ {n t : ℕ} {reps : List ℕ} (size : ℕ) {word out out′ verdicts : List ℕ} (l : length verdicts ≡ 1) (s : size ≡ bytesFor n)
-    (a : length word ≡ bytesFor n) (b : length out ≡ bytesFor n) (c : length out′ ≡ length out) (y : DecodedEach n t reps size word out out′ verdicts) where
-  pub one-word : Decoded n t reps word out out′ (verdictAs (getD verdicts 0 0))
+module _ {n sent t : ℕ} {reps : List ℕ} (size : ℕ) {word out out′ verdicts : List ℕ} (l : length verdicts ≡ 1) (s : size ≡ bytesFor sent)
+    (a : length word ≡ bytesFor sent) (b : length out ≡ bytesFor sent) (c : length out′ ≡ length out) (y : DecodedEach n sent t reps size word out out′ verdicts) where
+  pub one-word : Decoded n sent t reps word out out′ (verdictAs (getD verdicts 0 0))
   one-word = each-one size l (a ∙ sym s) (b ∙ sym s) (c ∙ b ∙ sym s) y

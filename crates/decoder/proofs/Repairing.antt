@@ -5,7 +5,9 @@
 --   places-put      a place set to its other value is x^i added to the mask
 --   repaired-start, repaired-more, repaired-end      places changed, one by one
 --   repairable-copied, repaired-copied      of a copy as of the word
+--   Below, below-start, below-more, reached-here, reached-none      whether a listed place is not below an end, place by place
 use mathlib.Core.Path.{_≡_, refl, sym, ap, ap₂, _∙_, subst}
+use mathlib.Core.Bool.{true, false}
 use mathlib.Core.List.{List}
 use Prim.Native.Nat.{ℕ, _+_, _-_, _*_, _^_, _≤_, _<_}
 use native.Mathlib.Decide.{ℕ-discrete}
@@ -14,6 +16,7 @@ use native.Mathlib.Omega.{arith}
 use lib.ListN.{length, getD, set, length-set}
 use lib.Seq.{getD-set-same, getD-set-other, ext-getD}
 use Rattle.field.specs.Mask.{_⊕_, coefficient}
+use Rattle.field.proofs.Search.{true-ne-false}
 use Rattle.field.proofs.Xor.{digit, ⊕-zero-l, ⊕-zero-r, ⊕-self, ⊕-assoc, bit-⊕}
 use Rattle.document.specs.Layout.{wordWeight, place}
 use Rattle.binary.proofs.Digits.{pow-same, pow-other}
@@ -21,7 +24,7 @@ use Rattle.syndrome.specs.Sums.{sumOver}
 use Rattle.syndrome.proofs.Listing.{over-z, over-s}
 use Rattle.codeword.specs.Place.{Put}
 use Rattle.codeword.proofs.Places.{place-lt}
-use Rattle.decoder.specs.Repair.{PlacesOf, Repairable, Repaired}
+use Rattle.decoder.specs.Repair.{PlacesOf, Repairable, Repaired, Reached}
 
 -- ---- bytes copied
 pub record Copying (i : ℕ) (from to : List ℕ) : Type 0 where
@@ -95,3 +98,29 @@ repairable-copied {m} {word} {list} e t =
 
 pub repaired-copied : {m : ℕ} {word word′ list out : List ℕ} → word′ ≡ word → Repaired word′ list m out → Repaired word list m out
 repaired-copied {m} {list = list} {out} e r = subst (λ (l : List ℕ). Repaired l list m out) e r
+
+-- ---- places past an end
+pub record Below (list : List ℕ) (m k end : ℕ) : Type 0 where
+  pub le : k ≤ m
+  pub long : m ≤ length list
+  pub at : (i : ℕ) → i < k → getD list i 0 < end
+
+pub below-start : {list : List ℕ} {m end : ℕ} → m ≤ length list → Below list m 0 end
+below-start h = record { le = omega arith; long = h; at = λ i l. absurd (omega arith) }
+
+module _ {list : List ℕ} {m k end : ℕ} (t : Below list m k end) where
+  pub below-more : k < m → getD list k 0 < end → Below list m (k + 1) end
+  below-more l h = record {
+    le = omega arith;
+    long = t .long;
+    at = λ i b. elim (ℕ-discrete i k) [
+      | yes q ↦ subst (λ (j : ℕ). getD list j 0 < end) (sym q) h
+      | no q ↦ t .at i (omega arith)
+    ];
+  }
+
+  pub reached-here : k < m → end ≤ getD list k 0 → Reached list m end true
+  reached-here l h = record { yes = λ e. (k, l, h); no = λ e. absurd (true-ne-false refl e) }
+
+  pub reached-none : m ≤ k → Reached list m end false
+  reached-none h = record { yes = λ e. absurd (true-ne-false e refl); no = λ e i l. t .at i (omega arith) }

@@ -194,9 +194,10 @@ module _ {n : ℕ} {word marks zeros ones trials : List ℕ} (m : Markable n wor
       ones-are n word marks (m .word-long) (m .clear) (m .marks-clear) mb (part size size trials) (part-long size size trials r) (small size r)
       (λ j h. entry size j h ∙ t .ones j h)
 
-  pub trials-lined : {count : ℕ} {out : List ℕ} → count ≡ 2 → out ≡ trials → Lined n size count trials out
+  pub trials-lined : {count : ℕ} {out : List ℕ} → count ≡ 2 → out ≡ trials → Lined n n size count trials out
   trials-lined {count} e o =
       record {
+        some = omega arith;
         size-is = m .word-long;
         words-long = t .long ∙ ap (λ (k : ℕ). k * size) (sym e);
         out-long = ap length o ∙ t .long ∙ ap (λ (k : ℕ). k * size) (sym e);

@@ -8,7 +8,7 @@
 use mathlib.Core.Path.{_≡_}
 use mathlib.Core.Bool.{Bool, true, false}
 use mathlib.Core.List.{List, [], _∷_}
-use Prim.Native.Nat.{ℕ, _+_, _-_, _*_, _/_, _^_, _≤_, _<_}
+use Prim.Native.Nat.{ℕ, _+_, _-_, _*_, _/_, _%_, _^_, _≤_, _<_}
 use lib.ListN.{length, getD}
 use Rattle.field.specs.Mask.{_⊕_}
 use Rattle.field.specs.Field.{orderOfTwo}
@@ -72,12 +72,13 @@ pub record Workspace (n L : ℕ) (columns values upper lower lower-cofactor uppe
   pub lower-cofactor-zero : Short 0 lower-cofactor
   pub upper-cofactor-zero : Short 0 upper-cofactor
 
--- a word of n places, and 0 up to the next whole byte
+-- a word of n places at most, and 0 up to the next whole byte
 pub record Held (n : ℕ) (w : List ℕ) : Type 0 where
   pub word : ℕ
   pub small : word < 2 ^ n
   pub holds : Holds word w
-  pub long : (n + 7) / 8 * 8 ≤ length w
+  pub whole : length w % 8 ≡ 0
+  pub most : length w ≤ (n + 7) / 8 * 8
 
 pub record Correctable (n s t : ℕ) (c : CodeCertificate) (reps powers logs columns values upper lower lower-cofactor upper-cofactor exponents steps low high places bits : List ℕ) : Type 0 where
   pub given : Given n s t c reps

@@ -10,13 +10,16 @@ ghost use Rattle.field.specs.Tables.{Tables};
 ghost use Rattle.decoder.specs.Correct.{Given};
 ghost use Rattle.decoder.specs.Decode.{Receivable, Lined, verdictAs, Decoded, DecodedEach};
 use crate::correct::correct;
+use crate::repair::reaches;
 use crate::repair::repair;
 use crate::types::Correction;
 use sheet::types::Certificate;
 
-// One word, up to 63 terms: the corrected word into out, and the number of changed places; or 65,535 where no codeword is near.
+// One word, up to 63 terms: the corrected word into out, and the number of changed places; or 65,535 where no codeword is near whose places
+// from `sent` on are 0.
 fn with_short_arrays(
     n: usize,
+    sent: usize,
     s: usize,
     t: usize,
     c: Certificate,
@@ -26,8 +29,8 @@ fn with_short_arrays(
     word: &[u8],
     out: &mut [u8],
 ) -> usize
-    requires { ⌜ Given n s t c (now representatives) × Tables s (now powers) (now logs) × Receivable n (now word) (now out) × (c .terms < 64) × (n ≤ 127) ⌝ }
-    ensures { λ r. ⌜ Decoded n t (now (representatives .entry)) (now (word .entry)) (now (out .entry)) (now (out .exit)) (verdictAs r) ⌝ }
+    requires { ⌜ Given n s t c (now representatives) × Tables s (now powers) (now logs) × Receivable n sent (now word) (now out) × (c .terms < 64) × (n ≤ 127) ⌝ }
+    ensures { λ r. ⌜ Decoded n sent t (now (representatives .entry)) (now (word .entry)) (now (out .entry)) (now (out .exit)) (verdictAs r) ⌝ }
 {
     let mut places = [0u16; 128];
     let mut columns = [0u64; 32];
@@ -63,6 +66,9 @@ fn with_short_arrays(
     ) else {
         return 65535;
     };
+    if reaches(&places, m, sent) {
+        return 65535;
+    }
     repair(word, &places, m, out);
     m
 }
@@ -70,6 +76,7 @@ fn with_short_arrays(
 // The same, up to 1,023 terms.
 fn with_long_arrays(
     n: usize,
+    sent: usize,
     s: usize,
     t: usize,
     c: Certificate,
@@ -79,8 +86,8 @@ fn with_long_arrays(
     word: &[u8],
     out: &mut [u8],
 ) -> usize
-    requires { ⌜ Given n s t c (now representatives) × Tables s (now powers) (now logs) × Receivable n (now word) (now out) × (c .terms < 1024) × (n ≤ 127) ⌝ }
-    ensures { λ r. ⌜ Decoded n t (now (representatives .entry)) (now (word .entry)) (now (out .entry)) (now (out .exit)) (verdictAs r) ⌝ }
+    requires { ⌜ Given n s t c (now representatives) × Tables s (now powers) (now logs) × Receivable n sent (now word) (now out) × (c .terms < 1024) × (n ≤ 127) ⌝ }
+    ensures { λ r. ⌜ Decoded n sent t (now (representatives .entry)) (now (word .entry)) (now (out .entry)) (now (out .exit)) (verdictAs r) ⌝ }
 {
     let mut places = [0u16; 128];
     let mut columns = [0u64; 32];
@@ -116,6 +123,9 @@ fn with_long_arrays(
     ) else {
         return 65535;
     };
+    if reaches(&places, m, sent) {
+        return 65535;
+    }
     repair(word, &places, m, out);
     m
 }
@@ -123,6 +133,7 @@ fn with_long_arrays(
 // Words one after the other, up to 63 terms: each decoded into its own bytes of out.
 pub fn each_with_short_arrays(
     n: usize,
+    sent: usize,
     s: usize,
     t: usize,
     c: Certificate,
@@ -134,8 +145,8 @@ pub fn each_with_short_arrays(
     out: &mut [u8],
     verdicts: &mut [usize],
 )
-    requires { ⌜ Given n s t c (now representatives) × Tables s (now powers) (now logs) × Lined n size (length (now verdicts)) (now words) (now out) × (c .terms < 64) × (n ≤ 127) ⌝ }
-    ensures { λ _. ⌜ DecodedEach n t (now (representatives .entry)) size (now (words .entry)) (now (out .entry)) (now (out .exit)) (now (verdicts .exit)) ⌝ }
+    requires { ⌜ Given n s t c (now representatives) × Tables s (now powers) (now logs) × Lined n sent size (length (now verdicts)) (now words) (now out) × (c .terms < 64) × (n ≤ 127) ⌝ }
+    ensures { λ _. ⌜ DecodedEach n sent t (now (representatives .entry)) size (now (words .entry)) (now (out .entry)) (now (out .exit)) (now (verdicts .exit)) ⌝ }
 {
     let mut k: usize = 0;
     while k < verdicts.len() {
@@ -143,6 +154,7 @@ pub fn each_with_short_arrays(
         let end = start + size;
         verdicts[k] = with_short_arrays(
             n,
+            sent,
             s,
             t,
             c,
@@ -159,6 +171,7 @@ pub fn each_with_short_arrays(
 // The same, up to 1,023 terms.
 pub fn each_with_long_arrays(
     n: usize,
+    sent: usize,
     s: usize,
     t: usize,
     c: Certificate,
@@ -170,8 +183,8 @@ pub fn each_with_long_arrays(
     out: &mut [u8],
     verdicts: &mut [usize],
 )
-    requires { ⌜ Given n s t c (now representatives) × Tables s (now powers) (now logs) × Lined n size (length (now verdicts)) (now words) (now out) × (c .terms < 1024) × (n ≤ 127) ⌝ }
-    ensures { λ _. ⌜ DecodedEach n t (now (representatives .entry)) size (now (words .entry)) (now (out .entry)) (now (out .exit)) (now (verdicts .exit)) ⌝ }
+    requires { ⌜ Given n s t c (now representatives) × Tables s (now powers) (now logs) × Lined n sent size (length (now verdicts)) (now words) (now out) × (c .terms < 1024) × (n ≤ 127) ⌝ }
+    ensures { λ _. ⌜ DecodedEach n sent t (now (representatives .entry)) size (now (words .entry)) (now (out .entry)) (now (out .exit)) (now (verdicts .exit)) ⌝ }
 {
     let mut k: usize = 0;
     while k < verdicts.len() {
@@ -179,6 +192,7 @@ pub fn each_with_long_arrays(
         let end = start + size;
         verdicts[k] = with_long_arrays(
             n,
+            sent,
             s,
             t,
             c,

@@ -11,6 +11,9 @@
 // 5. The last test: at most t places, with the value of r at each representative. Only then is r with them changed a codeword within t
 //    places, and the bytes are written (repair.rt); and if a codeword is within t places, these are the places in which it differs.
 //    Else the answer is 13.
+// A word of a shortened code is one with 0 in the places that are not sent. Where a codeword of it is within t places, it is the only codeword
+// that is; so what 1 to 5 find is it, or reaches into those places (`reaches` of repair.rt), and then the answer is 13. A shorter word has fewer
+// columns, and nothing is copied.
 // Cost: some R·n/4 + L·t·u + n·t·u table reads for n places, R representatives and f of degree u. No pattern of errors is tried.
 ghost use Prim.Native.Nat.{_<_, _≤_};
 ghost use Rattle.document.specs.Answer.{repliedAs};
@@ -23,9 +26,11 @@ use document::types::Refusal;
 use document::types::Reply;
 use sheet::types::Certificate;
 
-// Refusals 11, 12 and 13, and the corrected word where none is drawn. c is the working certificate.
+// Refusals 11, 12 and 13, and the corrected word where none is drawn. c is the working certificate. Of the n places so many are sent: all of
+// them, or those of a shortened code, whose codewords are the ones that have 0 above.
 pub fn decode_accepted(
     n: usize,
+    sent: usize,
     s: usize,
     t: usize,
     c: Certificate,
@@ -33,19 +38,19 @@ pub fn decode_accepted(
     word: &[u8],
     out: &mut [u8],
 ) -> Reply
-    requires { ⌜ Given n s t c (now representatives) × (c .terms < 1024) × (n ≤ 127) ⌝ }
-    ensures { λ r. ⌜ Decoded n t (now (representatives .entry)) (now (word .entry)) (now (out .entry)) (now (out .exit)) (repliedAs r) ⌝ }
+    requires { ⌜ Given n s t c (now representatives) × (c .terms < 1024) × (n ≤ 127) × (1 ≤ sent) × (sent ≤ n) ⌝ }
+    ensures { λ r. ⌜ Decoded n sent t (now (representatives .entry)) (now (word .entry)) (now (out .entry)) (now (out .exit)) (repliedAs r) ⌝ }
 {
-    if word.len() != bytes_for(n) {
+    if word.len() != bytes_for(sent) {
         return Reply::Refused(Refusal::BufferLength);
     }
-    if out.len() != bytes_for(n) {
+    if out.len() != bytes_for(sent) {
         return Reply::Refused(Refusal::BufferLength);
     }
-    if spare_word(n, word) {
+    if spare_word(sent, word) {
         return Reply::Refused(Refusal::SpareBit);
     }
-    let m = decode_word(n, s, t, c, representatives, word, out);
+    let m = decode_word(n, sent, s, t, c, representatives, word, out);
     if m == 65535 {
         return Reply::Refused(Refusal::NoneNear);
     }

@@ -1,7 +1,8 @@
 // The bytes that decoding writes: those of a word, with listed places set to the other value by shifts and masks.
 ghost use mathlib.Core.Path.{_≡_};
+ghost use Prim.Native.Nat.{_≤_};
 ghost use lib.ListN.{length};
-ghost use Rattle.decoder.specs.Repair.{Repairable, Repaired};
+ghost use Rattle.decoder.specs.Repair.{Repairable, Repaired, Reached};
 use codeword::layout::set_word_place;
 use codeword::layout::word_place;
 
@@ -29,6 +30,21 @@ pub fn flip(places: &[u16], m: usize, out: &mut [u8])
         set_word_place(out, i, 1 - bit);
         k = k + 1;
     }
+}
+
+// Whether one of the first m places of a list is not below the end of a word.
+pub fn reaches(places: &[u16], m: usize, end: usize) -> bool
+    requires { ⌜ m ≤ length (now places) ⌝ }
+    ensures { λ r. ⌜ Reached (now (places .entry)) m end r ⌝ }
+{
+    let mut k: usize = 0;
+    while k < m {
+        if end <= places[k] as usize {
+            return true;
+        }
+        k = k + 1;
+    }
+    false
 }
 
 // The bytes of a word with the first m places of a list changed.

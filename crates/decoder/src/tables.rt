@@ -16,6 +16,7 @@ use sheet::types::Certificate;
 // s up to 6.
 fn with_smallest_tables(
     n: usize,
+    sent: usize,
     s: usize,
     t: usize,
     c: Certificate,
@@ -26,8 +27,8 @@ fn with_smallest_tables(
     verdicts: &mut [usize],
     long: bool,
 )
-    requires { ⌜ Given n s t c (now representatives) × Lined n size (length (now verdicts)) (now words) (now out) × (long ≡ false → c .terms < 64) × (s ≤ 6) × (c .terms < 1024) × (n ≤ 127) ⌝ }
-    ensures { λ _. ⌜ DecodedEach n t (now (representatives .entry)) size (now (words .entry)) (now (out .entry)) (now (out .exit)) (now (verdicts .exit)) ⌝ }
+    requires { ⌜ Given n s t c (now representatives) × Lined n sent size (length (now verdicts)) (now words) (now out) × (long ≡ false → c .terms < 64) × (s ≤ 6) × (c .terms < 1024) × (n ≤ 127) ⌝ }
+    ensures { λ _. ⌜ DecodedEach n sent t (now (representatives .entry)) size (now (words .entry)) (now (out .entry)) (now (out .exit)) (now (verdicts .exit)) ⌝ }
 {
     let mut powers = [0u16; 320];
     let mut logs = [0u16; 64];
@@ -35,6 +36,7 @@ fn with_smallest_tables(
     if long {
         each_with_long_arrays(
             n,
+            sent,
             s,
             t,
             c,
@@ -50,6 +52,7 @@ fn with_smallest_tables(
     }
     each_with_short_arrays(
         n,
+        sent,
         s,
         t,
         c,
@@ -66,6 +69,7 @@ fn with_smallest_tables(
 // s up to 8.
 fn with_small_tables(
     n: usize,
+    sent: usize,
     s: usize,
     t: usize,
     c: Certificate,
@@ -76,8 +80,8 @@ fn with_small_tables(
     verdicts: &mut [usize],
     long: bool,
 )
-    requires { ⌜ Given n s t c (now representatives) × Lined n size (length (now verdicts)) (now words) (now out) × (long ≡ false → c .terms < 64) × (s ≤ 8) × (c .terms < 1024) × (n ≤ 127) ⌝ }
-    ensures { λ _. ⌜ DecodedEach n t (now (representatives .entry)) size (now (words .entry)) (now (out .entry)) (now (out .exit)) (now (verdicts .exit)) ⌝ }
+    requires { ⌜ Given n s t c (now representatives) × Lined n sent size (length (now verdicts)) (now words) (now out) × (long ≡ false → c .terms < 64) × (s ≤ 8) × (c .terms < 1024) × (n ≤ 127) ⌝ }
+    ensures { λ _. ⌜ DecodedEach n sent t (now (representatives .entry)) size (now (words .entry)) (now (out .entry)) (now (out .exit)) (now (verdicts .exit)) ⌝ }
 {
     let mut powers = [0u16; 1280];
     let mut logs = [0u16; 256];
@@ -85,6 +89,7 @@ fn with_small_tables(
     if long {
         each_with_long_arrays(
             n,
+            sent,
             s,
             t,
             c,
@@ -100,6 +105,7 @@ fn with_small_tables(
     }
     each_with_short_arrays(
         n,
+        sent,
         s,
         t,
         c,
@@ -116,6 +122,7 @@ fn with_small_tables(
 // s up to 12.
 fn with_large_tables(
     n: usize,
+    sent: usize,
     s: usize,
     t: usize,
     c: Certificate,
@@ -126,8 +133,8 @@ fn with_large_tables(
     verdicts: &mut [usize],
     long: bool,
 )
-    requires { ⌜ Given n s t c (now representatives) × Lined n size (length (now verdicts)) (now words) (now out) × (long ≡ false → c .terms < 64) × (c .terms < 1024) × (n ≤ 127) ⌝ }
-    ensures { λ _. ⌜ DecodedEach n t (now (representatives .entry)) size (now (words .entry)) (now (out .entry)) (now (out .exit)) (now (verdicts .exit)) ⌝ }
+    requires { ⌜ Given n s t c (now representatives) × Lined n sent size (length (now verdicts)) (now words) (now out) × (long ≡ false → c .terms < 64) × (c .terms < 1024) × (n ≤ 127) ⌝ }
+    ensures { λ _. ⌜ DecodedEach n sent t (now (representatives .entry)) size (now (words .entry)) (now (out .entry)) (now (out .exit)) (now (verdicts .exit)) ⌝ }
 {
     let mut powers = [0u16; 20480];
     let mut logs = [0u16; 4096];
@@ -135,6 +142,7 @@ fn with_large_tables(
     if long {
         each_with_long_arrays(
             n,
+            sent,
             s,
             t,
             c,
@@ -150,6 +158,7 @@ fn with_large_tables(
     }
     each_with_short_arrays(
         n,
+        sent,
         s,
         t,
         c,
@@ -163,9 +172,11 @@ fn with_large_tables(
     );
 }
 
-// One word: its codeword within t places into out, and the number of changed places; or 65,535, and out as it was, where there is none.
+// One word, of which so many places are sent and the others are 0: its codeword within t places that has them 0 too into out, and the
+// number of changed places; or 65,535, and out as it was, where there is none.
 pub fn decode_word(
     n: usize,
+    sent: usize,
     s: usize,
     t: usize,
     c: Certificate,
@@ -173,8 +184,8 @@ pub fn decode_word(
     word: &[u8],
     out: &mut [u8],
 ) -> usize
-    requires { ⌜ Given n s t c (now representatives) × Receivable n (now word) (now out) × (c .terms < 1024) × (n ≤ 127) ⌝ }
-    ensures { λ r. ⌜ Decoded n t (now (representatives .entry)) (now (word .entry)) (now (out .entry)) (now (out .exit)) (verdictAs r) ⌝ }
+    requires { ⌜ Given n s t c (now representatives) × Receivable n sent (now word) (now out) × (c .terms < 1024) × (n ≤ 127) ⌝ }
+    ensures { λ r. ⌜ Decoded n sent t (now (representatives .entry)) (now (word .entry)) (now (out .entry)) (now (out .exit)) (verdictAs r) ⌝ }
 {
     let mut verdicts = [0usize; 1];
     let size = word.len();
@@ -182,6 +193,7 @@ pub fn decode_word(
     if s <= 6 {
         with_smallest_tables(
             n,
+            sent,
             s,
             t,
             c,
@@ -197,6 +209,7 @@ pub fn decode_word(
     if s <= 8 {
         with_small_tables(
             n,
+            sent,
             s,
             t,
             c,
@@ -211,6 +224,7 @@ pub fn decode_word(
     }
     with_large_tables(
         n,
+        sent,
         s,
         t,
         c,
@@ -236,12 +250,13 @@ pub fn decode_words(
     out: &mut [u8],
     verdicts: &mut [usize],
 )
-    requires { ⌜ Given n s t c (now representatives) × Lined n size (length (now verdicts)) (now words) (now out) × (c .terms < 1024) × (n ≤ 127) ⌝ }
-    ensures { λ _. ⌜ DecodedEach n t (now (representatives .entry)) size (now (words .entry)) (now (out .entry)) (now (out .exit)) (now (verdicts .exit)) ⌝ }
+    requires { ⌜ Given n s t c (now representatives) × Lined n n size (length (now verdicts)) (now words) (now out) × (c .terms < 1024) × (n ≤ 127) ⌝ }
+    ensures { λ _. ⌜ DecodedEach n n t (now (representatives .entry)) size (now (words .entry)) (now (out .entry)) (now (out .exit)) (now (verdicts .exit)) ⌝ }
 {
     let long = 64 <= c.terms;
     if s <= 6 {
         with_smallest_tables(
+            n,
             n,
             s,
             t,
@@ -258,6 +273,7 @@ pub fn decode_words(
     if s <= 8 {
         with_small_tables(
             n,
+            n,
             s,
             t,
             c,
@@ -271,6 +287,7 @@ pub fn decode_words(
         return;
     }
     with_large_tables(
+        n,
         n,
         s,
         t,

@@ -41,7 +41,7 @@ use Rattle.document.specs.OtherTest.{fourWith, conditionsWith}
 use Rattle.document.proofs.Tested.{testedOf, Replies, repliesBy, documented, replies-tested}
 
 -- all definitions, for the lemmas that compute
-definitions : ℕ
+unfoldable pub definitions : ℕ
 unfolding leastFrom least upTo keep some every total _⊕_ size productBelow clmul divideDown remainder masks mask
     fieldMultiply fieldPower α orderOfTwo firstOf settleIn wordWeight messageWeight bytesFor place maskOf byteOf bytesOf
     spare certificateAt statedBy inCoset smallest inSet definingSet dimension addPoly timesRoot rootProduct generatorPoly
@@ -54,15 +54,15 @@ unfolding leastFrom least upTo keep some every total _⊕_ size productBelow clm
 definitions = 0
 
 -- a sheet of its numbers: n, representatives, certificates (b, z, f, h, L, all below 256)
-sheetOf : ℕ → List ℕ → List ℕ → ℕ → ℕ → List ℕ
+unfoldable pub sheetOf : ℕ → List ℕ → List ℕ → ℕ → ℕ → List ℕ
 sheetOf n reps certificate length-low count =
     length-low ∷ 0 ∷ n ∷ length reps ∷ 10 ∷ 0 ∷ count ∷ 0 ∷ (10 + length reps) ∷ 0 ∷ [] ++ reps ++ certificate
 
-oneCertificate : ℕ → List ℕ → ℕ → ℕ → ℕ → ℕ → ℕ → List ℕ
+unfoldable pub oneCertificate : ℕ → List ℕ → ℕ → ℕ → ℕ → ℕ → ℕ → List ℕ
 oneCertificate n reps b z f h L = sheetOf n reps (b ∷ z ∷ f ∷ 0 ∷ h ∷ 0 ∷ L ∷ 0 ∷ []) (18 + length reps) 1
 
 -- "Sheet H: n = 7, representative 1, b 1, z 1, f 3, h 1, L 2."
-sheetH : List ℕ
+unfoldable pub sheetH : List ℕ
 sheetH = oneCertificate 7 (1 ∷ []) 1 1 3 1 2
 
 -- the bytes that document 01 gives
@@ -71,7 +71,7 @@ unfolding sheetH oneCertificate sheetOf
 sheetH-bytes = refl
 
 -- "Sheet E: n = 7, representatives 0 1, b 0, z 1, f 3, h 1, L 3."
-sheetE : ℕ → List ℕ
+unfoldable pub sheetE : ℕ → List ℕ
 sheetE L = oneCertificate 7 (0 ∷ 1 ∷ []) 0 1 3 1 L
 
 -- "Sheet S: n = 17, representative 1, b 13, z 1, f 7, h 3, L 9 (document 001)."

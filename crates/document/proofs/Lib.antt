@@ -19,3 +19,4 @@ pub mod Polynomials
 pub mod ApartIs
 pub mod Tested
 pub mod Cases
+pub mod ShortenedCases

@@ -2,13 +2,14 @@
 --
 --   entry-sheet                 a refused sheet, for any entry
 --   entry-quiet                 an accepted one: its conditions may be left out
+--   sheet-before, entry-between      a refused sheet where conditions stand between the sheet's and the entry's own, and one of these
 --   entry-refused, entry-done   a later condition, none
 --   first-nil            no condition is left
 --   size-wrong, size-right      a buffer's length
 use mathlib.Core.Path.{_≡_, refl, sym, ap, _∙_}
 use mathlib.Core.Logic.{_≢_}
 use mathlib.Core.Bool.{true, false, not}
-use mathlib.Core.List.{List, [], _++_}
+use mathlib.Core.List.{List, [], _++_, append-assoc}
 use Prim.Native.Nat.{ℕ, zero, suc, _<_}
 use native.Mathlib.Omega.{arith}
 use lib.ListN.{length}
@@ -37,6 +38,19 @@ module _ {B : Type 0} (sheet : Conditions) (x : Stated) (conds : Conditions) (v 
   pub entry-sheet : (r : ℕ) → 0 < r → refused r ≡ judgeEntry sheet x → (refused r, old) ≡ answer
   entry-sheet zero h e = absurd (omega arith)
   entry-sheet (suc r) h e = settled r (first-keep sheet conds r (judged-first r e))
+
+-- ---- conditions between the sheet's and the entry's own
+module _ {B : Type 0} (sheet between conds : Conditions) (x : Stated) (v : List ℕ) (w old : B) where
+  three : firstOf (sheet ++ (between ++ conds)) ≡ firstOf ((sheet ++ between) ++ conds)
+  three = ap firstOf (sym (append-assoc sheet between conds))
+
+  pub sheet-before : (r : ℕ) → 0 < r → refused r ≡ judgeEntry sheet x → (refused r, old) ≡ settleIn (firstOf ((sheet ++ between) ++ conds)) v w old
+  sheet-before r h e = entry-sheet sheet x (between ++ conds) v w old r h e ∙ ap (λ (q : ℕ). settleIn q v w old) three
+
+  pub entry-between : (r : ℕ) → Quiet sheet → firstOf between ≡ suc r → (refused (suc r), old) ≡ settleIn (firstOf ((sheet ++ between) ++ conds)) v w old
+  unfolding settleIn
+  entry-between r q e =
+      sym (ap (λ (i : ℕ). settleIn i v w old) (sym three ∙ first-quiet (between ++ conds) q ∙ first-keep between conds r e))
 
 -- ---- an accepted sheet: its conditions are quiet
 module _ {B : Type 0} (conds : Conditions) (v : List ℕ) (w old : B) where

@@ -9,5 +9,6 @@ pub mod Judge
 pub mod OtherTest
 pub mod Entry
 pub mod Marked
+pub mod Shortened
 pub mod Card
 pub mod Short

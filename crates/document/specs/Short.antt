@@ -6,8 +6,10 @@
 --   judgeOf sheet         judging
 --   encodeOf sheet message out, readOf sheet word out, decodeOf sheet word out      answer, and bytes
 --   decodeMarkedOf sheet word marks zeros ones      answer, and the bytes of both trial buffers
+--   refusalsToShorten sheet m      1 to 10, and then 16
+--   encodeShortenedOf sheet m message out, readShortenedOf sheet m word out, decodeShortenedOf sheet m word out      answer, and bytes
 --   listing sheet, cardOf sheet out      the listing, and the entry that writes it
-use mathlib.Core.List.{List}
+use mathlib.Core.List.{List, _++_}
 use Prim.Native.Nat.{ℕ, _+_, _*_}
 use lib.ListN.{getD}
 use Rattle.document.specs.Answer.{Answer, Conditions}
@@ -15,6 +17,7 @@ use Rattle.document.specs.Sheet.{Certificate, Stated, Header, Kind, stat
 use Rattle.document.specs.Judge.{judgeConditions, judgeEntry}
 use Rattle.document.specs.Entry.{encodeEntry, readEntry, decodeEntry}
 use Rattle.document.specs.Marked.{markedEntry}
+use Rattle.document.specs.Shortened.{shorteningConditions, encodeShortenedEntry, readShortenedEntry, decodeShortenedEntry}
 use Rattle.document.specs.Card.{listingOf, cardEntry}
 
 abbrev pub byteAt : List ℕ → ℕ → ℕ
@@ -92,6 +95,19 @@ decodeOf sheet word out = decodeEntry (refusalsOf sheet) (stated sheet) word out
 
 abbrev pub decodeMarkedOf : List ℕ → List ℕ → List ℕ → List ℕ → List ℕ → Answer × (List ℕ × List ℕ)
 decodeMarkedOf sheet word marks zeros ones = markedEntry (refusalsOf sheet) (stated sheet) word marks zeros ones
+
+-- 2026-06: "New entries to encode, read out and decode take m"; "Refusal 16, after the sheet's and before 11"
+abbrev pub refusalsToShorten : List ℕ → ℕ → Conditions
+refusalsToShorten sheet m = refusalsOf sheet ++ shorteningConditions m (stated sheet)
+
+abbrev pub encodeShortenedOf : List ℕ → ℕ → List ℕ → List ℕ → Answer × List ℕ
+encodeShortenedOf sheet m message out = encodeShortenedEntry (refusalsToShorten sheet m) m (stated sheet) message out
+
+abbrev pub readShortenedOf : List ℕ → ℕ → List ℕ → List ℕ → Answer × List ℕ
+readShortenedOf sheet m word out = readShortenedEntry (refusalsToShorten sheet m) m (stated sheet) word out
+
+abbrev pub decodeShortenedOf : List ℕ → ℕ → List ℕ → List ℕ → Answer × List ℕ
+decodeShortenedOf sheet m word out = decodeShortenedEntry (refusalsToShorten sheet m) m (stated sheet) word out
 
 abbrev pub listing : List ℕ → List ℕ
 listing sheet = listingOf (refusalsOf sheet) (stated sheet)

@@ -17,6 +17,7 @@ pub enum Refusal {
     NoneNear,
     NoCodeword,
     NoneWithMarks,
+    Shortening,
 }
 
 // The record made of an accepted sheet: d, t and terms are those of its working certificate.

@@ -2,8 +2,8 @@
 --
 --   replied            a reply that is one of its cases
 --   coded-refused      a refusal's code is minus its number
---   encode-done, read-done      what encoding and reading out return is 0
---   decode-few, card-few      what decoding returns is at most n, and a listing has at most 1,024 bytes
+--   encode-done, read-done, encode-short-done, read-short-done      what encoding and reading out return is 0
+--   decode-few, decode-short-few, card-few      what decoding returns is at most n, and a listing has at most 1,024 bytes
 --   fits               so they are numbers of 32 bits
 --   counted-done       such a number is its own code
 --   marked-replied, marked-refused, marked-few, marked-done      the same of decoding with marks
@@ -22,7 +22,7 @@ use mir.ValLaws.{toZ-pos}
 use Rattle.document.specs.declared.types.Refusal.{Refusal}
 use Rattle.document.specs.declared.types.Refusal.the-variants.{SheetLength, CodeLength, FieldDegree, Header, Representative, NoMessage, Range}
 use Rattle.document.specs.declared.types.Refusal.the-variants.{CommonFactor, Period, Term, BufferLength, SpareBit, NoneNear, NoCodeword}
-use Rattle.document.specs.declared.types.Refusal.the-variants.{NoneWithMarks}
+use Rattle.document.specs.declared.types.Refusal.the-variants.{NoneWithMarks, Shortening}
 use Rattle.document.specs.declared.types.Reply.{Reply}
 use Rattle.document.specs.declared.types.MarkedReply.{MarkedReply}
 use Rattle.document.specs.Answer.{Answer, returned, refused, numberOf, repliedAs, markedAs, settleIn, settle}
@@ -31,7 +31,9 @@ use Rattle.document.specs.Generator.{differences}
 use Rattle.document.specs.Card.{cardEntry}
 use Rattle.document.specs.Entry.{encodeEntry, readEntry, wordOf, decodedWord, decodeEntry}
 use Rattle.document.specs.Marked.{unmarkedChanged, markedWord, tried, trialShown, markedEntry}
-use Rattle.document.specs.Short.{stated, refusalsOf, encodeOf, readOf, decodeOf, decodeMarkedOf, listing, cardOf}
+use Rattle.document.specs.Shortened.{sentWordOf, decodedShortened, encodeShortenedEntry, readShortenedEntry, decodeShortenedEntry}
+use Rattle.document.specs.Short.{stated, refusalsOf, encodeOf, readOf, decodeOf, encodeShortenedOf, readShortenedOf, decodeShortenedOf, decodeMarkedOf}
+use Rattle.document.specs.Short.{listing, cardOf}
 use Rattle.document.proofs.Marking.{unmarked-le}
 use Rattle.field.specs.Mask.{_⊕_}
 use Rattle.field.proofs.Xor.{digit-lt}
@@ -63,6 +65,7 @@ kept SpareBit = refl
 kept NoneNear = refl
 kept NoCodeword = refl
 kept NoneWithMarks = refl
+kept Shortening = refl
 
 -- the reply is one of its cases
 pub replied : {r q : Reply} {o : List ℕ} {a : Answer × List ℕ} → r ≡ q → (repliedAs r, o) ≡ a → (repliedAs q, o) ≡ a
@@ -96,17 +99,30 @@ pub read-done : (sheet word out : List ℕ) {n : ℕ} {o : List ℕ} → (return
 unfolding readEntry
 read-done sheet word out {n} e = coded-done (settled _ n 0 _ _ _ e) e
 
+pub encode-short-done : (sheet : List ℕ) (m : ℕ) (message out : List ℕ) {n : ℕ} {o : List ℕ} → (returned (n ∷ []), o) ≡ encodeShortenedOf sheet m message out
+    → (pos 0, o) ≡ codedAs (encodeShortenedOf sheet m message out)
+unfolding encodeShortenedEntry
+encode-short-done sheet m message out {n} e = coded-done (settled _ n 0 _ _ _ e) e
+
+pub read-short-done : (sheet : List ℕ) (m : ℕ) (word out : List ℕ) {n : ℕ} {o : List ℕ} → (returned (n ∷ []), o) ≡ readShortenedOf sheet m word out
+    → (pos 0, o) ≡ codedAs (readShortenedOf sheet m word out)
+unfolding readShortenedEntry
+read-short-done sheet m word out {n} e = coded-done (settled _ n 0 _ _ _ e) e
+
 -- ---- decoding
 count-le : (n e : ℕ) → count n e ≤ n
 count-le zero e = omega (arith, count-z e)
 count-le (suc n) e = omega (arith, count-s n e, count-le n e, digit-lt (e / 2 ^ n))
+
+differ-le : (n a b : ℕ) → differences n a b ≤ n
+differ-le n a b = omega (arith, differences-are n a b, count-le n (a ⊕ b))
 
 changed-le : (sheet word out : List ℕ) {m : ℕ} {o : List ℕ} → (returned (m ∷ []), o) ≡ decodeOf sheet word out → m ≤ stated sheet .n
 unfolding decodeEntry
 changed-le sheet word out {m} e =
     let x = stated sheet in
     let v : m ≡ differences (x .n) (wordOf x word) (decodedWord x word) = settled _ m _ _ _ _ e in
-    omega (arith, v, differences-are (x .n) (wordOf x word) (decodedWord x word), count-le (x .n) (wordOf x word ⊕ decodedWord x word))
+    omega (arith, v, differ-le (x .n) (wordOf x word) (decodedWord x word))
 
 pub fits : {m : ℕ} → m < 2147483648 → SFits w32 (pos m)
 fits h = record { sfits = omega arith }
@@ -114,6 +130,14 @@ fits h = record { sfits = omega arith }
 pub decode-few : (sheet word out : List ℕ) {m : ℕ} {o : List ℕ} → stated sheet .n < 65536 → (returned (m ∷ []), o) ≡ decodeOf sheet word out
     → m < 2147483648
 decode-few sheet word out h e = omega (arith, changed-le sheet word out e)
+
+pub decode-short-few : (sheet : List ℕ) (m : ℕ) (word out : List ℕ) {count : ℕ} {o : List ℕ} → stated sheet .n < 65536
+    → (returned (count ∷ []), o) ≡ decodeShortenedOf sheet m word out → count < 2147483648
+unfolding decodeShortenedEntry
+decode-short-few sheet m word out {count} h e =
+    let x = stated sheet in
+    let v : count ≡ differences (x .n) (sentWordOf m x word) (decodedShortened m x word) = settled _ count _ _ _ _ e in
+    omega (arith, v, differ-le (x .n) (sentWordOf m x word) (decodedShortened m x word))
 
 -- ---- listing
 listed-le : (x : ℕ) {m : ℕ} (text old rest o : List ℕ) → (returned (m ∷ []), o) ≡ settle x (length text ∷ []) (text ++ rest) old → m ≤ length o

@@ -24,5 +24,6 @@ pub fn refusal_code(r: Refusal) -> i32
         Refusal::NoneNear => -13,
         Refusal::NoCodeword => -14,
         Refusal::NoneWithMarks => -15,
+        Refusal::Shortening => -16,
     }
 }

@@ -4,7 +4,7 @@ pub mod codes;
 ghost use mathlib.Core.Path.{_≡_};
 ghost use lib.ListN.{length};
 ghost use Rattle.document.specs.Marked.{shownOf};
-ghost use Rattle.document.specs.Short.{encodeOf, readOf, decodeOf, decodeMarkedOf, cardOf};
+ghost use Rattle.document.specs.Short.{encodeOf, readOf, decodeOf, encodeShortenedOf, readShortenedOf, decodeShortenedOf, decodeMarkedOf, cardOf};
 ghost use Rattle.dunefork.specs.Codes.{codedAs, markedCodedAs};
 use crate::codes::refusal_code;
 use document::types::MarkedReply;
@@ -42,6 +42,45 @@ pub extern "C" fn dunefork_decode(sheet: &[u8], word: &[u8], out: &mut [u8]) -> 
     let reply = code::decode::decode(sheet, word, out);
     match reply {
         Reply::Done(m) => m as i32,
+        Reply::Refused(r) => refusal_code(r),
+    }
+}
+
+// The same three for a code shortened by m: messages of k - m bits, and words of n - m places.
+#[no_mangle]
+pub extern "C" fn dunefork_encode_short(
+    sheet: &[u8],
+    m: usize,
+    message: &[u8],
+    out: &mut [u8],
+) -> i32
+    ensures { λ r. ⌜ (r, now (out .exit)) ≡ codedAs (encodeShortenedOf (now (sheet .entry)) m (now (message .entry)) (now (out .entry))) ⌝ }
+{
+    let reply = code::encode::encode_short(sheet, m, message, out);
+    match reply {
+        Reply::Done(_) => 0,
+        Reply::Refused(r) => refusal_code(r),
+    }
+}
+
+#[no_mangle]
+pub extern "C" fn dunefork_read_short(sheet: &[u8], m: usize, word: &[u8], out: &mut [u8]) -> i32
+    ensures { λ r. ⌜ (r, now (out .exit)) ≡ codedAs (readShortenedOf (now (sheet .entry)) m (now (word .entry)) (now (out .entry))) ⌝ }
+{
+    let reply = code::read::read_short(sheet, m, word, out);
+    match reply {
+        Reply::Done(_) => 0,
+        Reply::Refused(r) => refusal_code(r),
+    }
+}
+
+#[no_mangle]
+pub extern "C" fn dunefork_decode_short(sheet: &[u8], m: usize, word: &[u8], out: &mut [u8]) -> i32
+    ensures { λ r. ⌜ (r, now (out .exit)) ≡ codedAs (decodeShortenedOf (now (sheet .entry)) m (now (word .entry)) (now (out .entry))) ⌝ }
+{
+    let reply = code::decode::decode_short(sheet, m, word, out);
+    match reply {
+        Reply::Done(count) => count as i32,
         Reply::Refused(r) => refusal_code(r),
     }
 }

@@ -1,5 +1,6 @@
 -- A word's values at the representatives, and whether all are 0.
 --
+--   width-is        a byte has two columns
 --   columnable, summable, value-here      the value at a representative by columns
 --   Computing, computing-start, computing-more, computing-end      the first k representatives
 --   Testing, testing-start, testing-more, testing-end, testing-wrong      a codeword is 0 at each representative
@@ -14,8 +15,7 @@ use Prim.Native.Nat.{ℕ, _+_, _-_, _*_, _/_, _^_, _≤_, _<_}
 use native.Mathlib.Decide.{ℕ-discrete}
 use native.Mathlib.Omega.{arith}
 use lib.Dec.{eqb}
-use lib.ListN.{length, getD, set, length-set}
-use lib.Pow.{pow-mono}
+use lib.ListN.{length, getD, set, length-set, List·getD-eq-default}
 use lib.Seq.{getD-set-same, getD-set-other}
 use borrow.Author.Tests.{eq-eqb, ne-eqb}
 use Rattle.algebra.proofs.Lists.{All, all-of, all-at, In}
@@ -25,6 +25,9 @@ use Rattle.field.proofs.Primitive.{Degree-bounds}
 use Rattle.document.specs.Generator.{valueBelow, valueAt}
 use Rattle.document.proofs.Encoding.{representatives-iff}
 use Rattle.binary.specs.Bits.{Holds}
+use Rattle.binary.proofs.Digits.{below-pow}
+use Rattle.codeword.specs.Place.{placesOf}
+use Rattle.codeword.proofs.Places.{places-length}
 use Rattle.syndrome.specs.Columns.{Columnable, Columned, Summable, Valued}
 use Rattle.syndrome.proofs.ValueSums.{value-of}
 use Rattle.syndrome.proofs.Roots.{root-by, value-all}
@@ -33,13 +36,16 @@ use Rattle.syndrome.specs.Value.{valueOf, Evaluable, Computable, Compute
 use Rattle.syndrome.proofs.Setting.{long, at-in, in-at, by-lt, place-lt}
 
 -- ---- a word in columns
-module _ {n s b : ℕ} {w reps e g col val : List ℕ} (p : Computable n s w reps e g col val) (b-is : b ≡ (n + 7) / 8 * 2) where
+pub width-is : (word : List ℕ) → length word * 2 ≡ length (placesOf word) / 8 * 2
+width-is word = omega (arith, places-length word)
+
+module _ {n s b : ℕ} {w reps e g col val : List ℕ} (p : Computable n s w reps e g col val) (b-is : b ≡ length w / 8 * 2) where
   pub columnable : Columnable b w
   columnable = record {
     bits = p .bits;
-    long = omega (arith, p .w-long);
+    long = omega arith;
     even = omega arith;
-    few = omega (arith, p .setting .odd .most);
+    few = omega (arith, p .w-most, p .setting .odd .most);
   }
 
   module _ {q : ℕ} (q-is : q ≡ (2 ^ s - 1) / n) where
@@ -48,7 +54,7 @@ module _ {n s b : ℕ} {w reps e g col val : List ℕ} (p : Computable n s w rep
     summable {k} h a l c = record {
       powered = p .setting .powered;
       by-lt = by-lt (p .setting) q-is {k = k} h a;
-      b-le = omega (arith, place-lt (p .setting) q-is (n - 1) (omega (arith, p .setting .odd .least)), p .setting .odd .least);
+      b-le = omega (arith, p .w-most, place-lt (p .setting) q-is (n - 1) (omega (arith, p .setting .odd .least)), p .setting .odd .least);
       even = omega arith;
       long = l;
       word = w;
@@ -58,11 +64,12 @@ module _ {n s b : ℕ} {w reps e g col val : List ℕ} (p : Computable n s w rep
     pub value-here : (r : ℕ) {v : ℕ} {col′ : List ℕ} → Columned b w col′ → Valued b s (r * q) col′ v → (a : ℕ) → Holds a w → a < 2 ^ n
         → v ≡ valueOf n s a r
     value-here r {v} t y a ha l =
-        let wide : 2 ^ n ≤ 2 ^ (4 * b) = pow-mono (omega arith) in
+        let short : a < 2 ^ (4 * b) =
+        below-pow (4 * b) a (λ i h. sym (ha .at i) ∙ List·getD-eq-default w 0 (omega (arith, p .w-whole))) in
         y .is w t ∙ run-below (λ i. fieldPower s ω (i * (r * q))) ha (4 * b)
         ∙ value-of (p .setting .powered .degree) (r * q) (4 * b) a
         ∙ ap (λ (x : ℕ). valueBelow s x (4 * b) a) (root-by (p .setting .odd) (p .setting .s-is) (p .setting .powered .degree) q-is r)
-        ∙ value-all s (fieldPower s (α s n) r) a (4 * b) (omega arith)
+        ∙ value-all s (fieldPower s (α s n) r) a (4 * b) short
 
 -- ---- the representatives in turn
 pub record Computing (n s k : ℕ) (w reps val : List ℕ) : Type 0 where
@@ -180,7 +187,7 @@ quiet-end {n} {w = w} {reps} {quiet = quiet} p h t = go quiet refl
 pub record Values (n s b q count : ℕ) (w reps e g col val₀ val : List ℕ) (clean : Bool) (k : ℕ) : Type 0 where
   pub empty : List ℕ
   pub given : Computable n s w reps e g empty val₀
-  pub b-is : b ≡ (n + 7) / 8 * 2
+  pub b-is : b ≡ length w / 8 * 2
   pub b-le : b ≤ length col
   pub columned : Columned b w col
   pub q-is : q ≡ (2 ^ s - 1) / n
@@ -190,14 +197,14 @@ pub record Values (n s b q count : ℕ) (w reps e g col val₀ val : List ℕ) (
   pub computing : Computing n s k w reps val
   pub quiet : AllZero n s k w reps clean
 
-pub values-start : {n s o : ℕ} {w reps e g empty col val : List ℕ} → Computable n s w reps e g empty val
-    → length col ≡ length empty → Columned ((n + 7) / 8 * 2) w col → o ≡ 2 ^ s - 1
-    → Values n s ((n + 7) / 8 * 2) (o / n) (length reps) w reps e g col val val true 0
-values-start {n} {empty = empty} p l c o-is = record {
+pub values-start : {n s o b : ℕ} {w reps e g empty col val : List ℕ} → Computable n s w reps e g empty val → b ≡ length w / 8 * 2
+    → length col ≡ length empty → Columned b w col → o ≡ 2 ^ s - 1
+    → Values n s b (o / n) (length reps) w reps e g col val val true 0
+values-start {n} {empty = empty} p b-is l c o-is = record {
   empty = empty;
   given = p;
-  b-is = refl;
-  b-le = omega (arith, p .col-long);
+  b-is = b-is;
+  b-le = omega (arith, p .w-most, p .col-long);
   columned = c;
   q-is = ap (λ (x : ℕ). x / n) o-is;
   count-is = refl;

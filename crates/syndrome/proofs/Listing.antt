@@ -41,13 +41,19 @@ over-set h list c x (suc k) l =
 
 pub listing-start : {a : ℕ} {list : List ℕ} → Listed 0 a list 0
 unfolding sumBelow
-listing-start {a} {list} = record { le = omega arith; below = λ k h. absurd (omega arith); is = λ h. over-z h list }
+listing-start {a} {list} = record {
+  le = omega arith;
+  below = λ k h. absurd (omega arith);
+  marked = λ k h. absurd (omega arith);
+  is = λ h. over-z h list;
+}
 
 -- a place that does not count
 pub listing-skip : {i a c : ℕ} {list : List ℕ} → coefficient i a ≡ 0 → Listed i a list c → Listed (i + 1) a list c
 listing-skip {i} {a} {c} {list} z t = record {
   le = omega (arith, t .le);
   below = λ k b. omega (arith, t .below k b);
+  marked = t .marked;
   is = λ f.
       t .is f ∙ sym (⊕-zero-r (sumBelow i a f))
       ∙ ap (λ (x : ℕ). sumBelow i a f ⊕ x) (sym (ap (λ (b : ℕ). b * f i) z ∙ zero-mul (f i)))
@@ -59,6 +65,7 @@ listed-set : {i a c : ℕ} {list : List ℕ} (x : ℕ) → Listed i a list c →
 listed-set {i} {a} {c} {list} x t = record {
   le = t .le;
   below = λ k b. subst (λ (y : ℕ). y < i) (sym (getD-set-other list c k x 0 (λ q. omega arith))) (t .below k b);
+  marked = λ k b. ap (λ (y : ℕ). coefficient y a) (getD-set-other list c k x 0 (λ q. omega arith)) ∙ t .marked k b;
   is = λ f. over-set f list c x c (omega arith) ∙ t .is f;
 }
 
@@ -77,6 +84,10 @@ listing-more {i} {a} {c} {b} {list} inside e t = go (ℕ-discrete b 0)
         subst (Listed (i + 1) a (set list c i)) (sym q) record {
           le = omega (arith, t .le);
           below = λ k l. last k l (ℕ-discrete k c);
+          marked = λ k l. elim (ℕ-discrete k c) [
+            | yes q ↦ ap (λ (j : ℕ). coefficient (getD (set list c i) j 0) a) q ∙ ap (λ (y : ℕ). coefficient y a) here ∙ sym e ∙ one
+            | no q ↦ ap (λ (y : ℕ). coefficient y a) (getD-set-other list c k i 0 q) ∙ t .marked k (omega arith)
+          ];
           is = λ f.
               over-s f (set list c i) c ∙ ap₂ (λ (x y : ℕ). x ⊕ f y) (over-set f list c i c (omega arith) ∙ t .is f) here
               ∙ ap (λ (x : ℕ). sumBelow i a f ⊕ x) (sym (ap (λ (y : ℕ). y * f i) (sym e ∙ one) ∙ one-mul (f i)))

@@ -19,10 +19,11 @@ unfoldable pub sumBelow : ℕ → ℕ → (ℕ → ℕ) → ℕ
 sumBelow zero a h = 0
 sumBelow (suc i) a h = sumBelow i a h ⊕ coefficient i a * h i
 
--- whatever is summed over the list is summed over the places of the mask
+-- each that is listed is a place of the mask, and whatever is summed over the list is summed over those places
 pub record Listed (n a : ℕ) (list : List ℕ) (c : ℕ) : Type 0 where
   pub le : c ≤ n
   pub below : (k : ℕ) → k < c → getD list k 0 < n
+  pub marked : (k : ℕ) → k < c → coefficient (getD list k 0) a ≡ 1
   pub is : (h : ℕ → ℕ) → sumOver h list c ≡ sumBelow n a h
 
 pub record Valuable (c s by : ℕ) (list e : List ℕ) : Type 0 where

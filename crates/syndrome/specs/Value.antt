@@ -36,12 +36,13 @@ pub record Evaluable (n s : ℕ) (reps e : List ℕ) : Type 0 where
   pub powered : Powered s e
 
 -- ---- the representatives
--- the word in (n + 7) / 8 * 2 columns of four places
+-- a word of whole bytes, no more than n places take, in columns of four places
 pub record Computable (n s : ℕ) (w reps e g col val : List ℕ) : Type 0 where
   pub setting : Evaluable n s reps e
   pub tables : Tables s e g
   pub bits : (i : ℕ) → getD w i 0 < 2
-  pub w-long : (n + 7) / 8 * 8 ≤ length w
+  pub w-whole : length w % 8 ≡ 0
+  pub w-most : length w ≤ (n + 7) / 8 * 8
   pub col-long : (n + 7) / 8 * 2 ≤ length col
   pub val-long : n ≤ length val
 

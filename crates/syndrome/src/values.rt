@@ -42,7 +42,8 @@ fn quiet(clean: bool, v: u16) -> bool
     if v == 0 { clean } else { false }
 }
 
-// The values of a word at the representatives, and whether it is a codeword: whether all are 0. Its columns are filled on the way.
+// The values of a word at the representatives, and whether it is a codeword: whether all are 0. Its columns are filled on the way. Places
+// past its last byte are 0.
 pub fn evaluate(
     word: &[u8],
     n: usize,
@@ -56,7 +57,7 @@ pub fn evaluate(
     requires { ⌜ Computable n s (placesOf (now word)) (now representatives) (now powers) (now logs) (now columns) (now values) ⌝ }
     ensures { λ r. ⌜ Computed n s (placesOf (now (word .entry))) (now (representatives .entry)) (now (values .exit)) × ValuesTested n (placesOf (now (word .entry))) (now (representatives .entry)) r ⌝ }
 {
-    let width = (n + 7) / 8 * 2;
+    let width = word.len() * 2;
     fill_columns(word, width, columns);
     let q = order(s) / n;
     let count = representatives.len();

@@ -1,4 +1,4 @@
-// What lines are made of: numbers, and bytes in hexadecimal.
+// What lines are made of, numbers and bytes in hexadecimal; and numbers in a call's bytes.
 ghost use Prim.Native.Nat.{_<_};
 use libc::STDOUT_FILENO;
 
@@ -22,4 +22,21 @@ pub fn wide(x: u8) -> usize
     ensures { λ r. ⌜ r < 256 ⌝ }
 {
     x as usize
+}
+
+// A number of eight bytes from a place on, the low one first; 0 where there are none.
+pub fn eight_bytes(bytes: &[u8], start: usize) -> usize {
+    if bytes.len() < 8 {
+        return 0;
+    }
+    if bytes.len() - 8 < start {
+        return 0;
+    }
+    let mut number: usize = 0;
+    let mut i: usize = 8;
+    while 0 < i {
+        i = i - 1;
+        number = (number << 8) | wide(bytes[start + i]);
+    }
+    number
 }

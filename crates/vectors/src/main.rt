@@ -1,7 +1,8 @@
 // Calls of the entries from standard input, and for each what it answers. A call is four bytes, its kind, the lengths of sheet and
 // input, and the length of the buffer lent or of the words; then sheet and input. Kinds: 0 judge and card, 1 encode, 2 read,
 // 3 decode, 4 decode with every word of a length, 5 card with a buffer whose length is the input, two bytes, 6 decode with marks, 7 the
-// part that is shown. tools/answers.py makes the calls, and the same answers with none of this code.
+// part that is shown, 8 encode, 9 read and 10 decode of a shortened code. tools/answers.py makes the calls, and the same answers with none
+// of this code.
 
 // what lines are made of
 mod line;
@@ -20,6 +21,9 @@ mod every;
 
 // lines about words with marked places, and the part that is shown
 mod marked;
+
+// the line about one message or word of a shortened code
+mod shortened;
 
 use crate::line::wide;
 use libc::STDIN_FILENO;
@@ -87,6 +91,10 @@ fn lines(kind: u8, sheet: &[u8], input: &[u8], length: usize) {
     }
     if kind == 7 {
         marked::shown_line(input);
+        return;
+    }
+    if 7 < kind {
+        shortened::short_line(kind, sheet, input, length);
         return;
     }
     words::word_line(kind, sheet, input, length);

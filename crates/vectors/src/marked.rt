@@ -1,5 +1,6 @@
 // The lines about decoding with marks: the reply, and both trial buffers afterwards, of which the zeros' holds AA before and the ones' 55;
 // and about the part that is shown of two buffers, of which the zeros' holds 00 01 02 .. and the ones' 80 81 82 ..
+use crate::line::eight_bytes;
 use crate::line::hex;
 use crate::line::number;
 use crate::line::wide;
@@ -120,21 +121,4 @@ fn count_up(buffer: &mut [u8], first: u8) {
         next = (next % 255) + 1;
         i = i + 1;
     }
-}
-
-// A number of eight bytes from a place on, the low one first; 0 where there are none.
-fn eight_bytes(bytes: &[u8], start: usize) -> usize {
-    if bytes.len() < 16 {
-        return 0;
-    }
-    if 8 < start {
-        return 0;
-    }
-    let mut number: usize = 0;
-    let mut i: usize = 8;
-    while 0 < i {
-        i = i - 1;
-        number = (number << 8) | wide(bytes[start + i]);
-    }
-    number
 }

@@ -33,7 +33,6 @@ fn reply_to(kind: u8, sheet: &[u8], input: &[u8], out: &mut [u8]) -> Reply {
     decode(sheet, input, out)
 }
 
-// What is returned may be the number of a refusal.
 fn reply_label(kind: u8, reply: Reply) {
     if kind == 1 {
         io::write_all(STDOUT_FILENO, b"encode");
@@ -42,6 +41,11 @@ fn reply_label(kind: u8, reply: Reply) {
     } else {
         io::write_all(STDOUT_FILENO, b"decode");
     }
+    reply_words(reply);
+}
+
+// What is returned may be the number of a refusal.
+pub fn reply_words(reply: Reply) {
     match reply {
         Reply::Done(n) => number(b" returned ", n),
         Reply::Refused(r) => number(b" refused ", refusal_number(r)),

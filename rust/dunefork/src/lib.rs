@@ -32,6 +32,9 @@
 //! Where the modem knows some places only as "0 or 1", [`decode_marked`] is told which and corrects more. Marks lie in bytes as a word
 //! does.
 //!
+//! Where readings are small, [`encode_short`], [`read_short`] and [`decode_short`] leave out the top m places of message and word, so that
+//! fewer are sent: k - m and n - m.
+//!
 //! Spare bits must be 0 in what is handed over, and are 0 in what comes back. n is byte 2 of the sheet; [`card`] tells n, k, d and t of
 //! a sheet, and docs/SHEETS.md how to write one.
 //!
@@ -67,8 +70,8 @@ pub const fn bytes(places: usize) -> usize {
     places / 8 + (places % 8 != 0) as usize
 }
 
-/// Why a call was refused. The numbers are those of documents 01 and 02; the conditions are tried in their order, those of certificates
-/// (7 to 10) for one certificate after the other. Later versions may have more.
+/// Why a call was refused. The numbers are those of documents 01 and 02; the conditions are tried in their order, 16 between 10 and 11,
+/// those of certificates (7 to 10) for one certificate after the other. Later versions may have more.
 #[derive(Clone, Copy, Debug, PartialEq, Eq, PartialOrd, Ord, Hash)]
 #[repr(u8)]
 #[non_exhaustive]
@@ -97,16 +100,18 @@ pub enum Error {
     BufferLength = 11,
     /// A spare bit of an input is 1: a low one in the last byte of a word or of marks, a high one in a message's.
     SpareBit = 12,
-    /// Decoding: no codeword lies within t places of the word.
+    /// Decoding: no codeword, of a shortened code no shortened one, lies within t places of the word.
     NoneNear = 13,
     /// Reading out: the word is no codeword.
     NoCodeword = 14,
     /// Decoding a marked word: no codeword differs from it in e unmarked places with 2·e + r at most d - 1, where r are marked.
     NoneWithMarks = 15,
+    /// A shortened code: m is 0, or not below k.
+    Shortening = 16,
 }
 
 impl Error {
-    /// The number that document 01 or 02 gives it, 1 to 15.
+    /// The number that document 01 or 02 gives it, 1 to 16.
     ///
     /// ```
     /// let error = dunefork::encode(&[], &[], &mut []).unwrap_err();
@@ -134,6 +139,7 @@ impl Error {
             13 => Error::NoneNear,
             14 => Error::NoCodeword,
             15 => Error::NoneWithMarks,
+            16 => Error::Shortening,
             _ => return None,
         })
     }
@@ -159,6 +165,7 @@ impl fmt::Display for Error {
             Error::NoneNear => "no codeword lies within t places of the word",
             Error::NoCodeword => "the word is no codeword",
             Error::NoneWithMarks => "no codeword differs from the word in so few unmarked places as its marks allow",
+            Error::Shortening => "the number of places to leave out is 0 or not below k",
         };
         write!(f, "refusal {}: {}", self.number(), meaning)
     }
@@ -170,6 +177,7 @@ impl std::error::Error for Error {}
 mod c {
     //! include/dunefork.h.
     type Entry = unsafe extern "C" fn(*const u8, usize, *const u8, usize, *mut u8, usize) -> i32;
+    type ShortEntry = unsafe extern "C" fn(*const u8, usize, usize, *const u8, usize, *mut u8, usize) -> i32;
 
     extern "C" {
         fn dunefork_encode(s: *const u8, s_len: usize, i: *const u8, i_len: usize, o: *mut u8, o_len: usize) -> i32;
@@ -188,18 +196,30 @@ mod c {
             o_len: usize,
         ) -> i32;
         fn dunefork_shown_length(trial: usize, n: usize, z: *const u8, z_len: usize, o: *const u8, o_len: usize) -> usize;
+        fn dunefork_encode_short(s: *const u8, sl: usize, m: usize, i: *const u8, il: usize, o: *mut u8, ol: usize) -> i32;
+        fn dunefork_read_short(s: *const u8, sl: usize, m: usize, i: *const u8, il: usize, o: *mut u8, ol: usize) -> i32;
+        fn dunefork_decode_short(s: *const u8, sl: usize, m: usize, i: *const u8, il: usize, o: *mut u8, ol: usize) -> i32;
         fn dunefork_card(s: *const u8, s_len: usize, o: *mut u8, o_len: usize) -> i32;
     }
 
     pub const ENCODE: Entry = dunefork_encode;
     pub const READ: Entry = dunefork_read;
     pub const DECODE: Entry = dunefork_decode;
+    pub const ENCODE_SHORT: ShortEntry = dunefork_encode_short;
+    pub const READ_SHORT: ShortEntry = dunefork_read_short;
+    pub const DECODE_SHORT: ShortEntry = dunefork_decode_short;
 
     /// An entry's answer: what it returns, or the error of its refusal.
     pub fn call(entry: Entry, sheet: &[u8], input: &[u8], out: &mut [u8]) -> Result<usize, super::Error> {
         // SAFETY: the entries read the two inputs and write `out` within the lengths that go with them, and keep no pointer.
         // `out` is borrowed exclusively, so that it overlaps neither input.
         answer(unsafe { entry(sheet.as_ptr(), sheet.len(), input.as_ptr(), input.len(), out.as_mut_ptr(), out.len()) })
+    }
+
+    /// The answer of an entry for shortened codes.
+    pub fn call_short(entry: ShortEntry, sheet: &[u8], m: usize, input: &[u8], out: &mut [u8]) -> Result<usize, super::Error> {
+        // SAFETY: as above.
+        answer(unsafe { entry(sheet.as_ptr(), sheet.len(), m, input.as_ptr(), input.len(), out.as_mut_ptr(), out.len()) })
     }
 
     /// The answer for a word with marks: 2·e + trial.
@@ -370,6 +390,89 @@ pub fn decode_marked<'a>(
 pub fn shown<'a>(trial: usize, n: usize, zeros: &'a [u8], ones: &'a [u8]) -> &'a [u8] {
     let length = c::shown_length(trial, n, zeros, ones);
     &(if trial == 0 { zeros } else { ones })[..length]
+}
+
+/// Encodes a message of a shortened code: the top m message places are 0 and the top m places of the codeword are not sent. The k - m
+/// places of the message stand in the places n - k and up of the word, the places below hold the checks.
+///
+/// `message` has exactly `bytes(k - m)` bytes and `out` exactly `bytes(n - m)`. m is 1 to k - 1.
+///
+/// ```
+/// // sheets/bch-63-51.hex with m = 23: the words of 40 places, 28 of them for the message, of AMPS's forward control channel. t = 2.
+/// const SHEET: [u8; 20] = [20, 0, 63, 2, 10, 0, 1, 0, 12, 0, 1, 3, 1, 1, 3, 0, 1, 0, 4, 0];
+///
+/// let mut word = [0; dunefork::bytes(63 - 23)];
+/// dunefork::encode_short(&SHEET, 23, &[0xef, 0xbe, 0xad, 0x0e], &mut word)?;
+/// assert_eq!(word, [0x18, 0xcf, 0x77, 0xdb, 0x57]);
+///
+/// word[0] ^= 0x80; // the wire spoils place 0
+/// word[4] ^= 0x01; // and place 39
+/// let mut right = [0; 5];
+/// assert_eq!(dunefork::decode_short(&SHEET, 23, &word, &mut right)?, 2);
+///
+/// let mut message = [0; dunefork::bytes(51 - 23)];
+/// dunefork::read_short(&SHEET, 23, &right, &mut message)?;
+/// assert_eq!(message, [0xef, 0xbe, 0xad, 0x0e]);
+/// # Ok::<(), dunefork::Error>(())
+/// ```
+///
+/// # Errors
+///
+/// Refusals 1 to 12, and [`Error::Shortening`], after those of the sheet, exactly where m is 0 or not below k; `out` is then as it was.
+pub fn encode_short(sheet: &[u8], m: usize, message: &[u8], out: &mut [u8]) -> Result<(), Error> {
+    c::call_short(c::ENCODE_SHORT, sheet, m, message, out).map(|_| ())
+}
+
+/// Reads the message out of a shortened codeword: the n - m lower places of a codeword whose top m places are 0.
+///
+/// `word` has exactly `bytes(n - m)` bytes and `out` exactly `bytes(k - m)`. m is 1 to k - 1.
+///
+/// ```
+/// // Sheet H of document 01, n = 7 and k = 4, with m = 2.
+/// const SHEET: [u8; 19] = [19, 0, 7, 1, 10, 0, 1, 0, 11, 0, 1, 1, 1, 3, 0, 1, 0, 2, 0];
+///
+/// let mut message = [0];
+/// dunefork::read_short(&SHEET, 2, &[0b01101_000], &mut message)?;
+/// assert_eq!(message, [0b10]);
+/// assert_eq!(dunefork::read_short(&SHEET, 2, &[0b10000_000], &mut message), Err(dunefork::Error::NoCodeword));
+/// assert_eq!(dunefork::read_short(&SHEET, 2, &[0b00000_100], &mut message), Err(dunefork::Error::SpareBit));
+/// assert_eq!(dunefork::read_short(&SHEET, 4, &[0], &mut message), Err(dunefork::Error::Shortening));
+/// # Ok::<(), dunefork::Error>(())
+/// ```
+///
+/// # Errors
+///
+/// Refusals 1 to 12, [`Error::Shortening`], after those of the sheet, exactly where m is 0 or not below k, and [`Error::NoCodeword`]
+/// exactly where the word is no shortened codeword; `out` is then as it was.
+pub fn read_short(sheet: &[u8], m: usize, word: &[u8], out: &mut [u8]) -> Result<(), Error> {
+    c::call_short(c::READ_SHORT, sheet, m, word, out).map(|_| ())
+}
+
+/// Corrects a received word of a shortened code: the shortened codeword that differs from it in at most t places goes into `out`, and the
+/// number of places in which the two differ comes back, 0 to t. There is never more than one. t is that of the sheet, as for [`decode`].
+///
+/// `word` and `out` have exactly `bytes(n - m)` bytes each. m is 1 to k - 1.
+///
+/// ```
+/// // Sheet H of document 01, n = 7 and t = 1, with m = 2.
+/// const SHEET: [u8; 19] = [19, 0, 7, 1, 10, 0, 1, 0, 11, 0, 1, 1, 1, 3, 0, 1, 0, 2, 0];
+///
+/// let mut word = [0];
+/// assert_eq!(dunefork::decode_short(&SHEET, 2, &[0b01100_000], &mut word)?, 1);
+/// assert_eq!(word, [0b01101_000]);
+/// // the only codeword within one place has a 1 in place 5, which is not sent
+/// assert_eq!(dunefork::decode(&SHEET, &[0b00110_000], &mut word)?, 1);
+/// assert_eq!(word, [0b00110_100]);
+/// assert_eq!(dunefork::decode_short(&SHEET, 2, &[0b00110_000], &mut word), Err(dunefork::Error::NoneNear));
+/// # Ok::<(), dunefork::Error>(())
+/// ```
+///
+/// # Errors
+///
+/// Refusals 1 to 12, [`Error::Shortening`], after those of the sheet, exactly where m is 0 or not below k, and [`Error::NoneNear`] exactly
+/// where no shortened codeword is within t places, also where another codeword is; `out` is then as it was.
+pub fn decode_short(sheet: &[u8], m: usize, word: &[u8], out: &mut [u8]) -> Result<usize, Error> {
+    c::call_short(c::DECODE_SHORT, sheet, m, word, out)
 }
 
 /// Tells what a sheet amounts to: its listing, the text of the program `linkcard`, written into `out`. The lines are `code N K S`, S

@@ -1,5 +1,6 @@
 //! Document 01's cases and refusals, as far as they go through these functions, with words laid out as document 02 says.
 use dunefork::{bytes, card, decode, decode_marked, encode, read, shown, Error, CARD_BYTES};
+use dunefork::{decode_short, encode_short, read_short};
 
 /// A sheet with one certificate b, z, f, h, L.
 fn sheet(n: u8, representatives: &[u8], [b, z, f, h, terms]: [u8; 5]) -> Vec<u8> {
@@ -85,6 +86,12 @@ fn refused(sheet: &[u8], error: Error) {
         assert_eq!(encode(sheet, &[0xff; 4][..len], &mut out), Err(error));
         assert_eq!(read(sheet, &[0xff; 4][..len], &mut out), Err(error));
         assert_eq!(decode(sheet, &[0xff; 4][..len], &mut out), Err(error));
+        // any m: a shortening that is refused too comes after the sheet
+        for m in [0, 1, 2, 127, usize::MAX] {
+            assert_eq!(encode_short(sheet, m, &[0xff; 4][..len], &mut out), Err(error));
+            assert_eq!(read_short(sheet, m, &[0xff; 4][..len], &mut out), Err(error));
+            assert_eq!(decode_short(sheet, m, &[0xff; 4][..len], &mut out), Err(error));
+        }
         assert_eq!(out, [0xaa; 3]);
     }
 }
@@ -384,13 +391,14 @@ fn read_back() {
 
 #[test]
 fn numbers() {
-    for number in 1..=15 {
+    for number in 1..=16 {
         let error = Error::from_number(number).unwrap();
         assert_eq!(error.number(), number);
         assert!(error.to_string().starts_with(&format!("refusal {number}: ")));
     }
     assert_eq!(Error::from_number(0), None);
-    assert_eq!(Error::from_number(16), None);
+    assert_eq!(Error::from_number(17), None);
+    assert_eq!(Error::Shortening.number(), 16);
     assert_eq!(Error::NoneNear.to_string(), "refusal 13: no codeword lies within t places of the word");
 }
 

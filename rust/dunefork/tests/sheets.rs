@@ -1,6 +1,6 @@
 //! Every sheet of the repository's folder sheets/: messages come back after 0 to t wrong places, and after e wrong and r marked ones with
-//! 2·e + r up to d - 1, as its file states d and t.
-use dunefork::{bytes, decode, decode_marked, encode, read, Error};
+//! 2·e + r up to d - 1, as its file states d and t; and after 0 to t wrong places of every shortened code.
+use dunefork::{bytes, decode, decode_marked, decode_short, encode, encode_short, read, read_short, Error};
 use std::path::Path;
 
 struct Sheet {
@@ -106,6 +106,85 @@ fn marked_round_trips() {
             let (mut zeros, mut ones) = (vec![0xaa; bytes(sheet.n)], vec![0xaa; bytes(sheet.n)]);
             let answer = decode_marked(&sheet.bytes, &received, &marks, &mut zeros, &mut ones);
             assert_eq!(answer, Ok((errors, &word[..])), "{}", sheet.name);
+        }
+    }
+}
+
+#[test]
+fn shortened_round_trips() {
+    let mut codes = 0;
+    for sheet in sheets() {
+        let mut draw = Draw(3);
+        for m in 1..sheet.k {
+            codes += 1;
+            let (places, bits) = (sheet.n - m, sheet.k - m);
+            for errors in [0, 1, sheet.t - sheet.t / 2, sheet.t] {
+                let mut message = draw.message(bits);
+                message[(bits - 1) / 8] |= 1 << ((bits - 1) % 8); // the highest place is used
+                let mut word = vec![0xaa; bytes(places)];
+                assert_eq!(encode_short(&sheet.bytes, m, &message, &mut word), Ok(()), "{}, m = {m}", sheet.name);
+                // the same as the whole code's, with zeros above
+                let (mut padded, mut whole) = (message.clone(), vec![0; bytes(sheet.n)]);
+                padded.resize(bytes(sheet.k), 0);
+                encode(&sheet.bytes, &padded, &mut whole).unwrap();
+                assert!(
+                    whole.starts_with(&word) && whole[word.len()..].iter().all(|byte| *byte == 0),
+                    "{}, m = {m}",
+                    sheet.name
+                );
+
+                let mut received = word.clone();
+                draw.turn(&mut received, &mut (0..places).collect(), errors);
+                let mut right = vec![0xaa; bytes(places)];
+                assert_eq!(decode_short(&sheet.bytes, m, &received, &mut right), Ok(errors), "{}, m = {m}", sheet.name);
+                assert_eq!(right, word, "{}, m = {m}", sheet.name);
+                let mut back = vec![0xaa; bytes(bits)];
+                assert_eq!(read_short(&sheet.bytes, m, &right, &mut back), Ok(()), "{}, m = {m}", sheet.name);
+                assert_eq!(back, message, "{}, m = {m}", sheet.name);
+                if errors > 0 {
+                    assert_eq!(
+                        read_short(&sheet.bytes, m, &received, &mut back),
+                        Err(Error::NoCodeword),
+                        "{}, m = {m}",
+                        sheet.name
+                    );
+                    assert_eq!(back, message, "{}, m = {m}", sheet.name);
+                }
+            }
+        }
+        let (mut word, message) = (vec![0xaa; bytes(sheet.n)], vec![0; bytes(sheet.k)]);
+        for m in [0, sheet.k, sheet.k + 1, sheet.n, usize::MAX] {
+            assert_eq!(encode_short(&sheet.bytes, m, &message, &mut word), Err(Error::Shortening), "{}, m = {m}", sheet.name);
+        }
+        assert_eq!(word, vec![0xaa; bytes(sheet.n)]);
+    }
+    assert!(codes > 400);
+}
+
+/// The places below n - m of a codeword that has one 1 above them, t - 1 of them wrong: within t places of that codeword, so of no other,
+/// and of no shortened one.
+#[test]
+fn words_near_a_codeword_that_is_no_shortened_one() {
+    for sheet in sheets().iter().filter(|sheet| sheet.k > 1 && sheet.t > 0) {
+        let mut draw = Draw(4);
+        for m in 1..sheet.k {
+            let (places, bits) = (sheet.n - m, sheet.k - m);
+            let above = bits + draw.below(m);
+            let mut message = draw.message(bits);
+            message.resize(bytes(sheet.k), 0);
+            message[above / 8] |= 1 << (above % 8);
+            let (mut whole, mut out) = (vec![0; bytes(sheet.n)], vec![0; bytes(sheet.n)]);
+            encode(&sheet.bytes, &message, &mut whole).unwrap();
+            let at = sheet.n - sheet.k + above;
+            let mut low = whole.clone();
+            low[at / 8] ^= 1 << (7 - at % 8);
+            draw.turn(&mut low, &mut (0..places).collect(), sheet.t - 1);
+            assert_eq!(decode(&sheet.bytes, &low, &mut out), Ok(sheet.t), "{}, m = {m}", sheet.name);
+            assert_eq!(out, whole, "{}, m = {m}", sheet.name);
+            low.truncate(bytes(places));
+            let mut short = vec![0xaa; bytes(places)];
+            assert_eq!(decode_short(&sheet.bytes, m, &low, &mut short), Err(Error::NoneNear), "{}, m = {m}", sheet.name);
+            assert_eq!(short, vec![0xaa; bytes(places)]);
         }
     }
 }

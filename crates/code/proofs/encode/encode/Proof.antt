@@ -5,7 +5,7 @@ use mathlib.Core.Path.{sym, ap, _∙_}
 use Rattle.document.specs.Answer.{judgedAs}
 use Rattle.code.proofs.Accepted.{short-limits}
 use Rattle.code.proofs.Ready.{ready, quiet, part, usable-part}
-use Rattle.code.proofs.Entries.{encode-sheet, encode-accepted}
+use Rattle.code.proofs.Entries.{encode-sheet, encode-accepted, unshortened-encoding}
 use borrow.Author.Needs.{needs}
 use Rattle.code.proofs.encode.encode.Statement.{statement}
 use Rattle.code.proofs.encode.encode.Tie as tie
@@ -42,17 +42,17 @@ slice-aggregate-encode-accepted c = let r = c .before .before .before .before .r
 
 encode-accepted-requires : tie.Need-encode-accepted-requires
 encode-accepted-requires c κs = let r = ready short-limits (c .before .before .before .before .before .before .before .before .before .before .judge-into .ensures) (sym (ap judgedAs (c .before .before .before .before .before .before .before .judged2 .given .1))) in
-    (usable-part r (c .before .before .before .before .before .representative-count .ensures .0), r .most)
+    (usable-part r (c .before .before .before .before .before .representative-count .ensures .0), r .most, omega (arith, r .usable .k-pos))
 
 returns : tie.Need-returns
 returns c = encode-sheet _ _ _ _ (c .before .judged .given .0 .0) (sym (ap judgedAs (c .before .judged .given .1)) ∙ c .before .before .before .before .judge-into .ensures .is)
 
 same-length : tie.Need-same-length
-same-length c = c .before .before .encode-accepted .kept .1 .1 .1 .1 .1 .0
+same-length c = c .before .before .encode-accepted .kept .1 .1 .1 .1 .1 .1 .0
 
 returns-2 : tie.Need-returns-2
 returns-2 c = let r = ready short-limits (c .before .before .before .before .before .before .before .before .before .before .before .before .before .judge-into .ensures) (sym (ap judgedAs (c .before .before .before .before .before .before .before .before .before .before .judged2 .given .1))) in
-    c .before .before .encode-accepted .ensures .is _ (r .numbers .n-is) (part r (c .before .before .before .before .before .before .before .before .representative-count .ensures .0)) ∙ encode-accepted _ _ _ _ (quiet r)
+    c .before .before .encode-accepted .ensures .is _ (r .numbers .n-is) (part r (c .before .before .before .before .before .before .before .before .representative-count .ensures .0)) ∙ unshortened-encoding _ _ _ ∙ encode-accepted _ _ _ _ (quiet r)
 
 pub encode-spec : {M : Type 1} → statement M
 encode-spec =

@@ -5,7 +5,7 @@ use mathlib.Core.Path.{sym, ap, _∙_}
 use Rattle.document.specs.Answer.{judgedAs}
 use Rattle.code.proofs.Accepted.{short-limits}
 use Rattle.code.proofs.Ready.{ready, quiet, part, usable-part}
-use Rattle.code.proofs.Entries.{read-sheet, read-accepted}
+use Rattle.code.proofs.Entries.{read-sheet, read-accepted, unshortened-reading}
 use borrow.Author.Needs.{needs}
 use Rattle.code.proofs.read.read.Statement.{statement}
 use Rattle.code.proofs.read.read.Tie as tie
@@ -42,17 +42,17 @@ slice-aggregate-read-accepted c = let r = c .before .before .before .before .rep
 
 read-accepted-requires : tie.Need-read-accepted-requires
 read-accepted-requires c κs = let r = ready short-limits (c .before .before .before .before .before .before .before .before .before .before .judge-into .ensures) (sym (ap judgedAs (c .before .before .before .before .before .before .before .judged2 .given .1))) in
-    (usable-part r (c .before .before .before .before .before .representative-count .ensures .0), r .most)
+    (usable-part r (c .before .before .before .before .before .representative-count .ensures .0), r .most, omega (arith, r .usable .k-pos))
 
 returns : tie.Need-returns
 returns c = read-sheet _ _ _ _ (c .before .judged .given .0 .0) (sym (ap judgedAs (c .before .judged .given .1)) ∙ c .before .before .before .before .judge-into .ensures .is)
 
 same-length : tie.Need-same-length
-same-length c = c .before .before .read-accepted .kept .1 .1 .1 .1 .1 .0
+same-length c = c .before .before .read-accepted .kept .1 .1 .1 .1 .1 .1 .0
 
 returns-2 : tie.Need-returns-2
 returns-2 c = let r = ready short-limits (c .before .before .before .before .before .before .before .before .before .before .before .before .before .judge-into .ensures) (sym (ap judgedAs (c .before .before .before .before .before .before .before .before .before .before .judged2 .given .1))) in
-    c .before .before .read-accepted .ensures .is _ (r .numbers .n-is) (part r (c .before .before .before .before .before .before .before .before .representative-count .ensures .0)) ∙ read-accepted _ _ _ _ (quiet r)
+    c .before .before .read-accepted .ensures .is _ (r .numbers .n-is) (part r (c .before .before .before .before .before .before .before .before .representative-count .ensures .0)) ∙ unshortened-reading _ _ _ ∙ read-accepted _ _ _ _ (quiet r)
 
 pub read-spec : {M : Type 1} → statement M
 read-spec =

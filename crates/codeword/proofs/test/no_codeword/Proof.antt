@@ -12,10 +12,10 @@ sub-make-feedback : tie.Need-sub-make-feedback
 sub-make-feedback c = search needs
 
 make-feedback-requires : tie.Need-make-feedback-requires
-make-feedback-requires c κs = let p = c .before .before .before .before .before .before .before .before .before .before .pre in (p .0 .coded, ap (λ (x : ℕ). c .before .before .before .before .before .before .before .before .before .before .args .n - x) (p .0 .k-is), p .2)
+make-feedback-requires c κs = let p = c .before .before .before .before .before .before .before .before .before .before .pre in (p .0 .coded, ap (λ (x : ℕ). c .before .before .before .before .before .before .before .before .before .before .args .n - x) (p .0 .k-is), p .3)
 
 take-word-requires : tie.Need-take-word-requires
-take-word-requires c κs = let p = c .before .before .before .before .before .before .before .before .before .before .before .before .before .before .before .before .before .before .before .before .before .pre in let k = c .before .before .before .before .before .before .before .before .before .before .make-feedback .kept in (omega (arith, p .1, for-le (c .before .before .before .before .before .before .before .before .before .before .before .before .before .before .before .before .before .before .before .before .before .args .n)), omega (arith, p .2 .some, p .2 .long, k .1 .1 .1 .1 .1 .0), k .1 .1 .1 .1 .1 .0 ∙ p .2 .long ∙ sym (k .1 .1 .1 .1 .0), c .before .before .before .before .before .before .before .before .before .before .make-feedback .ensures .empty)
+take-word-requires c κs = let p = c .before .before .before .before .before .before .before .before .before .before .before .before .before .before .before .before .before .before .before .before .before .pre in let k = c .before .before .before .before .before .before .before .before .before .before .make-feedback .kept in (omega (arith, p .2, for-le (c .before .before .before .before .before .before .before .before .before .before .before .before .before .before .before .before .before .before .before .before .before .args .sent)), omega (arith, p .3 .some, p .3 .long, k .1 .1 .1 .1 .1 .0), k .1 .1 .1 .1 .1 .0 ∙ p .3 .long ∙ sym (k .1 .1 .1 .1 .0), c .before .before .before .before .before .before .before .before .before .before .make-feedback .ensures .empty)
 
 is-zero-requires : tie.Need-is-zero-requires
 is-zero-requires c κs = search needs

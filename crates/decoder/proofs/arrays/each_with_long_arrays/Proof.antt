@@ -7,11 +7,11 @@ use Rattle.decoder.proofs.arrays.each_with_long_arrays.Statement.{state
 use Rattle.decoder.proofs.arrays.each_with_long_arrays.Tie as tie
 
 abbrev Inv-loop : tie.InvT-loop
-Inv-loop n s t c representatives powers logs size words out₀ verdicts₀ k₀ out verdicts k =
-    DecodedSome n t representatives size k words out₀ verdicts₀ out verdicts × (k ≤ length verdicts₀)
+Inv-loop n sent s t c representatives powers logs size words out₀ verdicts₀ k₀ out verdicts k =
+    DecodedSome n sent t representatives size k words out₀ verdicts₀ out verdicts × (k ≤ length verdicts₀)
 
 abbrev μ-loop : tie.MeasureT-loop
-μ-loop n s t c representatives powers logs size words out₀ verdicts₀ k₀ out verdicts k = length verdicts₀ - k
+μ-loop n sent s t c representatives powers logs size words out₀ verdicts₀ k₀ out verdicts k = length verdicts₀ - k
 
 loop-holds : tie.Need-loop-holds Inv-loop μ-loop
 loop-holds c = (some-start (c .before .before .before .before .before .before .args .size), omega arith)
@@ -58,7 +58,7 @@ loop-less c = omega (arith, c .before .before .before .before .before .before .l
 
 loop-again : tie.Need-loop-again Inv-loop μ-loop
 loop-again c = let i = c .before .before .before .before .before .before in
-    (some-more (c .before .before .before .before .before .before .before .before .before .before .before .before .before .args .size) (i .loop .k) (out-room (c .before .before .before .before .before .before .before .before .before .before .before .before .before .pre .2) (c .before .before .before .before .before .before .loop .k) (omega (arith, c .before .before .before .before .before .before .loop .inv .0 .verdicts-long))) (i .loop .inv .0) (omega arith) (i .loop .k * c .before .before .before .before .before .before .before .before .before .before .before .before .before .args .size + c .before .before .before .before .before .before .before .before .before .before .before .before .before .args .size - i .loop .k * c .before .before .before .before .before .before .before .before .before .before .before .before .before .args .size) (omega arith) _ _ (c .before .before .with-long-arrays .kept .1 .1 .1 .1 .1 .1 .1 .1 .0) (c .before .before .with-long-arrays .ensures), omega (arith, i .loop .inv .0 .verdicts-long))
+    (some-more (c .before .before .before .before .before .before .before .before .before .before .before .before .before .args .size) (i .loop .k) (out-room (c .before .before .before .before .before .before .before .before .before .before .before .before .before .pre .2) (c .before .before .before .before .before .before .loop .k) (omega (arith, c .before .before .before .before .before .before .loop .inv .0 .verdicts-long))) (i .loop .inv .0) (omega arith) (i .loop .k * c .before .before .before .before .before .before .before .before .before .before .before .before .before .args .size + c .before .before .before .before .before .before .before .before .before .before .before .before .before .args .size - i .loop .k * c .before .before .before .before .before .before .before .before .before .before .before .before .before .args .size) (omega arith) _ _ (c .before .before .with-long-arrays .kept .1 .1 .1 .1 .1 .1 .1 .1 .1 .0) (c .before .before .with-long-arrays .ensures), omega (arith, i .loop .inv .0 .verdicts-long))
 
 same-length : tie.Need-same-length Inv-loop μ-loop
 same-length c = c .before .loop .inv .0 .long

@@ -4,7 +4,7 @@ use mathlib.Core.Path.{refl, ap}
 use borrow.Author.Needs.{needs}
 use Rattle.decoder.specs.Correct.{correctedAs}
 use Rattle.decoder.proofs.Cleared.{lodged}
-use Rattle.decoder.proofs.Exits.{received-held, received-far, received-repairable, received-done}
+use Rattle.decoder.proofs.Exits.{received-held, received-far, received-listed, received-beyond, received-repairable, received-done}
 use Rattle.decoder.proofs.arrays.with_short_arrays.Statement.{statement}
 use Rattle.decoder.proofs.arrays.with_short_arrays.Tie as tie
 
@@ -54,19 +54,29 @@ enum-told c = c .match .keys2
 returns : tie.Need-returns
 returns c = received-far (c .before .before .before .before .before .before .before .before .before .before .before .before .before .before .before .before .before .before .before .before .before .before .before .before .before .before .before .before .before .before .pre .2) (c .before .before .before .before .before .before .before .before .before .before .before .before .before .correct .ensures) (ap correctedAs (c .enum-told .given .1))
 
+slice-aggregate-reaches : tie.Need-slice-aggregate-reaches
+slice-aggregate-reaches c = search needs
+
+reaches-requires : tie.Need-reaches-requires
+reaches-requires c κs = let p = c .before .before .before .before .before .before .before .before .before .before .before .before .before .before .before .before .before .before .before .before .before .before .before .before .before .before .before .before .before .before .before .before .pre in
+    received-listed (p .2) (c .before .before .before .before .before .before .before .before .before .before .before .before .before .before .before .correct .ensures) (ap correctedAs (c .before .before .m .given .1)) (omega (arith, p .4))
+
+returns-2 : tie.Need-returns-2
+returns-2 c = received-beyond (c .before .before .before .before .before .before .before .before .before .before .before .before .before .before .before .before .before .before .before .before .before .before .before .before .before .before .before .before .before .before .before .before .before .before .pre .2) (c .before .before .before .before .before .before .before .before .before .before .before .before .before .before .before .before .before .correct .ensures) (ap correctedAs (c .before .before .before .before .m .given .1)) (c .before .reaches .ensures) (c .if1 .taken)
+
 slice-aggregate-repair : tie.Need-slice-aggregate-repair
 slice-aggregate-repair c = search needs
 
 repair-requires : tie.Need-repair-requires
-repair-requires c κs = let p = c .before .before .before .before .before .before .before .before .before .before .before .before .before .before .before .before .before .before .before .before .before .before .before .before .before .before .before .before .before .before .before .before .before .pre in
-    received-repairable (p .2) (c .before .before .before .before .before .before .before .before .before .before .before .before .before .before .before .before .correct .ensures) (ap correctedAs (c .before .before .before .m .given .1)) (omega (arith, p .4))
+repair-requires c κs = let p = c .before .before .before .before .before .before .before .before .before .before .before .before .before .before .before .before .before .before .before .before .before .before .before .before .before .before .before .before .before .before .before .before .before .before .before .before .pre in
+    received-repairable (p .2) (c .before .before .before .before .before .before .before .before .before .before .before .before .before .before .before .before .before .before .before .correct .ensures) (ap correctedAs (c .before .before .before .before .before .before .m .given .1)) (c .before .before .before .reaches .ensures) (c .before .before .if1 .left) (omega (arith, p .4))
 
 same-length : tie.Need-same-length
 same-length c = c .before .before .repair .kept .1 .1 .1 .0
 
-returns-2 : tie.Need-returns-2
-returns-2 c = let p = c .before .before .before .before .before .before .before .before .before .before .before .before .before .before .before .before .before .before .before .before .before .before .before .before .before .before .before .before .before .before .before .before .before .before .before .before .pre in
-    received-done (p .2) (c .before .before .before .before .before .before .before .before .before .before .before .before .before .before .before .before .before .before .before .correct .ensures) (p .4) (ap correctedAs (c .before .before .before .before .before .before .m .given .1)) (c .before .before .repair .ensures) (c .before .before .repair .kept .1 .1 .1 .0)
+returns-3 : tie.Need-returns-3
+returns-3 c = let p = c .before .before .before .before .before .before .before .before .before .before .before .before .before .before .before .before .before .before .before .before .before .before .before .before .before .before .before .before .before .before .before .before .before .before .before .before .before .before .before .pre in
+    received-done (p .2) (c .before .before .before .before .before .before .before .before .before .before .before .before .before .before .before .before .before .before .before .before .before .before .correct .ensures) (ap correctedAs (c .before .before .before .before .before .before .before .before .before .m .given .1)) (c .before .before .before .before .before .before .reaches .ensures) (c .before .before .before .before .before .if1 .left) (p .4) (c .before .before .repair .ensures) (c .before .before .repair .kept .1 .1 .1 .0)
     (λ i. omega (arith, c .slice-known2 .given i))
 
 pub with-short-arrays-spec : {M : Type 1} → statement M
@@ -88,7 +98,10 @@ with-short-arrays-spec =
     enum-known-m
     enum-told
     returns
+    slice-aggregate-reaches
+    reaches-requires
+    returns-2
     slice-aggregate-repair
     repair-requires
     same-length
-    returns-2)
+    returns-3)

@@ -24,16 +24,16 @@ returns-3 : tie.Need-returns-3
 returns-3 c = decode-spare _ _ (c .before .before .before .before .if1 .left ∙ c .before .before .before .before .before .bytes-for .ensures) (c .before .before .if2 .left ∙ c .before .before .before .bytes-for2 .ensures) (sym (c .before .spare-word .ensures) ∙ c .if3 .taken)
 
 decode-word-requires : tie.Need-decode-word-requires
-decode-word-requires c κs = let p = c .before .before .before .before .before .before .before .before .before .before .pre in (p .0, record { word-long = (c .before .before .before .before .before .if1 .left ∙ c .before .before .before .before .before .before .bytes-for .ensures); out-long = (c .before .before .before .if2 .left ∙ c .before .before .before .before .bytes-for2 .ensures); clear = sym (c .before .before .spare-word .ensures) ∙ c .before .if3 .left }, p .1, p .2)
+decode-word-requires c κs = let p = c .before .before .before .before .before .before .before .before .before .before .pre in (p .0, record { some = p .4; word-long = (c .before .before .before .before .before .if1 .left ∙ c .before .before .before .before .before .before .bytes-for .ensures); out-long = (c .before .before .before .if2 .left ∙ c .before .before .before .before .bytes-for2 .ensures); clear = sym (c .before .before .spare-word .ensures) ∙ c .before .if3 .left }, p .1, p .2)
 
 same-length : tie.Need-same-length
-same-length c = c .before .before .before .decode-word .kept .1 .1 .1 .1 .1 .1 .0
+same-length c = c .before .before .before .decode-word .kept .1 .1 .1 .1 .1 .1 .1 .0
 
 returns-4 : tie.Need-returns-4
 returns-4 c = decoded-far (c .before .before .before .decode-word .ensures) (c .if4 .taken)
 
 same-length-2 : tie.Need-same-length-2
-same-length-2 c = c .before .before .before .decode-word .kept .1 .1 .1 .1 .1 .1 .0
+same-length-2 c = c .before .before .before .decode-word .kept .1 .1 .1 .1 .1 .1 .1 .0
 
 returns-5 : tie.Need-returns-5
 returns-5 c = decoded-near (c .before .before .before .decode-word .ensures) (c .if4 .left)

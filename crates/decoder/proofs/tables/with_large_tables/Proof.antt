@@ -23,10 +23,10 @@ each-with-long-arrays-requires : tie.Need-each-with-long-arrays-requires
 each-with-long-arrays-requires c κs = let p = c .before .before .before .before .before .before .before .before .before .before .before .before .before .before .pre in (p .0, c .before .before .before .before .before .before .before .fill .ensures .tables, p .1, p .3, p .4)
 
 same-length : tie.Need-same-length
-same-length c = c .before .before .before .before .each-with-long-arrays .kept .1 .1 .1 .1 .1 .1 .1 .1 .1 .0
+same-length c = c .before .before .before .before .each-with-long-arrays .kept .1 .1 .1 .1 .1 .1 .1 .1 .1 .1 .0
 
 same-length-2 : tie.Need-same-length-2
-same-length-2 c = c .before .before .before .before .each-with-long-arrays .kept .1 .1 .1 .1 .1 .1 .1 .1 .1 .1 .0
+same-length-2 c = c .before .before .before .before .each-with-long-arrays .kept .1 .1 .1 .1 .1 .1 .1 .1 .1 .1 .1 .0
 
 returns : tie.Need-returns
 returns c = c .before .before .before .before .each-with-long-arrays .ensures
@@ -41,10 +41,10 @@ each-with-short-arrays-requires : tie.Need-each-with-short-arrays-requires
 each-with-short-arrays-requires c κs = let p = c .before .before .before .before .before .before .before .before .before .before .before .before .before .before .pre in (p .0, c .before .before .before .before .before .before .before .fill .ensures .tables, p .1, p .2 (c .before .before .before .before .if1 .left), p .4)
 
 same-length-3 : tie.Need-same-length-3
-same-length-3 c = c .before .before .before .before .each-with-short-arrays .kept .1 .1 .1 .1 .1 .1 .1 .1 .1 .0
+same-length-3 c = c .before .before .before .before .each-with-short-arrays .kept .1 .1 .1 .1 .1 .1 .1 .1 .1 .1 .0
 
 same-length-4 : tie.Need-same-length-4
-same-length-4 c = c .before .before .before .before .each-with-short-arrays .kept .1 .1 .1 .1 .1 .1 .1 .1 .1 .1 .0
+same-length-4 c = c .before .before .before .before .each-with-short-arrays .kept .1 .1 .1 .1 .1 .1 .1 .1 .1 .1 .1 .0
 
 returns-2 : tie.Need-returns-2
 returns-2 c = c .before .before .before .before .each-with-short-arrays .ensures

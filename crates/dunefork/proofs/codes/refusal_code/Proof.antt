@@ -54,6 +54,9 @@ enum-told-14 c = search needs
 enum-told-15 : tie.Need-enum-told-15
 enum-told-15 c = search needs
 
+enum-told-16 : tie.Need-enum-told-16
+enum-told-16 c = search needs
+
 returns : tie.Need-returns
 returns c = sym (ap (λ (q : Refusal). negℤ (pos (numberOf q))) (c .enum-told .given .1))
 
@@ -99,6 +102,9 @@ returns-14 c = sym (ap (λ (q : Refusal). negℤ (pos (numberOf q))) (c .enum-to
 returns-15 : tie.Need-returns-15
 returns-15 c = sym (ap (λ (q : Refusal). negℤ (pos (numberOf q))) (c .enum-told15 .given .1))
 
+returns-16 : tie.Need-returns-16
+returns-16 c = sym (ap (λ (q : Refusal). negℤ (pos (numberOf q))) (c .enum-told16 .given .1))
+
 pub refusal-code-spec : {M : Type 1} → statement M
 refusal-code-spec =
     tie.close
@@ -118,6 +124,7 @@ refusal-code-spec =
     enum-told-13
     enum-told-14
     enum-told-15
+    enum-told-16
     returns
     returns-2
     returns-3
@@ -132,4 +139,5 @@ refusal-code-spec =
     returns-12
     returns-13
     returns-14
-    returns-15)
+    returns-15
+    returns-16)

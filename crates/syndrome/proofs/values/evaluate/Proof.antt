@@ -4,7 +4,8 @@ use native.Mathlib.Omega.{arith}
 use mathlib.Core.Path.{refl}
 use Prim.Native.Nat.{_-_}
 use Rattle.codeword.specs.Place.{placesOf}
-use Rattle.syndrome.proofs.Computing.{columnable, Values, values-start, values-summable, values-by, values-in, values-more, values-end}
+use Rattle.codeword.proofs.Places.{places-length}
+use Rattle.syndrome.proofs.Computing.{width-is, columnable, Values, values-start, values-summable, values-by, values-in, values-more, values-end}
 use Rattle.syndrome.proofs.values.evaluate.Statement.{statement}
 use Rattle.syndrome.proofs.values.evaluate.Tie as tie
 
@@ -14,14 +15,12 @@ Inv-loop word n s representatives powers logs columns values₀ width q count cl
 abbrev μ-loop : tie.MeasureT-loop
 μ-loop word n s representatives powers logs columns values₀ width q count clean₀ k₀ values clean k = count - k
 
-add-width : tie.Need-add-width Inv-loop μ-loop
-add-width c = omega (arith, c .before .before .before .before .before .before .pre .setting .odd .most)
-
 mul-width : tie.Need-mul-width Inv-loop μ-loop
-mul-width c = omega (arith, c .before .before .before .before .before .before .pre .setting .odd .most)
+mul-width c = let p = c .before .before .before .before .before .before .pre in omega (arith, p .setting .odd .most, p .w-most, places-length (c .before .before .before .before .before .before .args .word .now))
 
 fill-columns-requires : tie.Need-fill-columns-requires Inv-loop μ-loop
-fill-columns-requires c κs = (columnable (c .before .before .before .before .before .before .before .pre) refl, c .before .before .before .before .before .before .before .pre .col-long)
+fill-columns-requires c κs = let p = c .before .before .before .before .before .before .before .pre in let w = c .before .before .before .before .before .before .before .args .word .now in
+    (columnable p (width-is w), omega (arith, p .w-most, p .col-long, places-length w))
 
 order-requires : tie.Need-order-requires Inv-loop μ-loop
 order-requires c κs = c .before .before .before .before .before .before .before .before .before .before .pre .setting .powered .degree
@@ -30,7 +29,7 @@ div-q : tie.Need-div-q Inv-loop μ-loop
 div-q c = omega (arith, c .before .before .before .before .before .before .before .before .before .before .before .pre .setting .odd .least)
 
 loop-holds : tie.Need-loop-holds Inv-loop μ-loop
-loop-holds c = values-start (c .before .before .before .before .before .before .before .before .before .before .before .pre) (c .before .before .before .fill-columns .kept .1 .1 .0) (c .before .before .before .fill-columns .ensures) (c .order .ensures)
+loop-holds c = values-start (c .before .before .before .before .before .before .before .before .before .before .before .pre) (width-is (c .before .before .before .before .before .before .before .before .before .before .before .args .word .now)) (c .before .before .before .fill-columns .kept .1 .1 .0) (c .before .before .before .fill-columns .ensures) (c .order .ensures)
 
 mul-r : tie.Need-mul-r Inv-loop μ-loop
 mul-r c = omega (arith, c .before .loop .inv .count-is)
@@ -83,7 +82,6 @@ evaluate-spec =
     (tie.spec
     Inv-loop
     μ-loop
-    add-width
     mul-width
     fill-columns-requires
     order-requires

@@ -62,6 +62,7 @@
  *     uint8_t message[DUNEFORK_BYTES(7 - 3)] = {0x05}, word[DUNEFORK_BYTES(15 - 3)], right[DUNEFORK_BYTES(15 - 3)];
  *
  *     dunefork_encode_short(sheet, sizeof sheet, 3, message, sizeof message, word, sizeof word);  // returns 0
+ *     // .. the wire, which spoils up to two places ..
  *     int32_t changed = dunefork_decode_short(sheet, sizeof sheet, 3, word, sizeof word, right, sizeof right);  // returns 0, 1 or 2
  *     if (changed >= 0) dunefork_read_short(sheet, sizeof sheet, 3, right, sizeof right, message, sizeof message);  // returns 0
  *

@@ -25,7 +25,7 @@ use Rattle.document.specs.Sheet.{Stated}
 use Rattle.document.specs.Generator.{encodeMask, differences, nearest}
 use Rattle.document.specs.Judge.{dimensionOf}
 use Rattle.document.specs.Entry.{generatorOf, radiusOf, CodewordOf, wrongSize, wordOf, nearestMessage, decodedWord, decodeConditions, decodeEntry}
-use Rattle.document.specs.Shortened.{sentPlaces, sentWordOf, isShortened, ShortenedCodeword, shortenedMessage, decodedShortened}
+use Rattle.document.specs.Shortened.{sentPlaces, sentWordOf, topZero, ShortenedCodeword, shortenedMessage, decodedShortened}
 use Rattle.document.specs.Shortened.{decodeShortenedConditions, decodeShortenedEntry}
 use Rattle.document.proofs.Encoding.{encode-lt}
 use Rattle.document.proofs.Chain.{Quiet, first-true, first-false}
@@ -45,16 +45,16 @@ module _ {x : Stated} (a : Accepted x) (m : ℕ) (word : List ℕ) where
   r = sentWordOf m x word
 
   abbrev passes : ℕ → Bool
-  passes c = isShortened m x c && leb (differences n r c) (radiusOf x)
+  passes c = topZero m x c && leb (differences n r c) (radiusOf x)
 
   passed : (c : ℕ) → passes c ≡ true → (c < 2 ^ sentPlaces m x) × (differences n r c ≤ radiusOf x)
-  unfolding isShortened
+  unfolding topZero
   passed c e =
       let b = and-both (ltb c (2 ^ sentPlaces m x)) (leb (differences n r c) (radiusOf x)) e in
       (ltb-true c (2 ^ sentPlaces m x) (b .0), leb-true (differences n r c) (radiusOf x) (b .1))
 
   passes-of : (c : ℕ) → c < 2 ^ sentPlaces m x → differences n r c ≤ radiusOf x → passes c ≡ true
-  unfolding isShortened
+  unfolding topZero
   passes-of c s h = ap₂ _&&_ (lt-ltb c (2 ^ sentPlaces m x) s) (le-leb (differences n r c) (radiusOf x) h)
 
   pub shortened-le : shortenedMessage m x word ≤ 2 ^ k
@@ -180,7 +180,7 @@ module _ {x : Stated} (a : Accepted x) (word out : List ℕ) where
       (lt-ltb (encodeMask (x .n - dimensionOf x) (generatorOf x) message) (2 ^ x .n) (encode-lt (accepted-length a) (x .representatives) message h)))
 
   pub unshortened : decodeShortenedEntry [] 0 x word out ≡ decodeEntry [] x word out
-  unfolding decodeShortenedEntry decodeShortenedConditions decodedShortened shortenedMessage isShortened decodeEntry decodeConditions decodedWord
+  unfolding decodeShortenedEntry decodeShortenedConditions decodedShortened shortenedMessage topZero decodeEntry decodeConditions decodedWord
   unshortened =
       let whole : x .n - 0 ≡ x .n = omega arith in
       ap (λ (sent : ℕ). answer sent (search sent)) whole ∙ ap (answer (x .n)) searched

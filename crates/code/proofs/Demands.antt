@@ -16,7 +16,7 @@
 -- A record for each demand and for each request, a field for each clause, under the clause's words. Each demand is for every list of bytes
 -- that may be a sheet; x is what it states. The words are in specs/Published.antt and specs/Table.antt, under the documents' sentences. That
 -- the field's masks are the smallest primitive ones is mask-least of field/proofs/Smallest.antt; examples, 13 with a buffer that was not 0
--- among them, are the tables of document/proofs/Cases.antt.
+-- among them, are the tables of document/proofs/Cases.antt and ShortenedCases.antt.
 use mathlib.Core.Path.{_≡_, refl}
 use mathlib.Core.Logic.{_≢_, _↔_, _⊎_}
 use mathlib.Core.Bool.{true}
@@ -47,16 +47,16 @@ use Rattle.codeword.proofs.Places.{mask-lt, mask-coefficient}
 use Rattle.certificate.proofs.Marks.{half-or-half}
 use Rattle.code.specs.Published.{IsAccepted, SheetRead, Bytes, Word, Message, InDefiningSet, SetSize, ZeroAt}
 use Rattle.code.specs.Published.{HasDegree, Divides, Rule1, Rule3, Published, Rounded, Working, WorkingIs, Systematic, WordDecoded, MarkedCall, WordShown, kept}
-use Rattle.code.specs.Published.{ShortenedSheet, ShortenedWord, ShortenedMessage, ShortenedSystematic, ShortenedDecoded}
+use Rattle.code.specs.Published.{Shortenable, ShortenedWord, ShortenedMessage, ShortenedSystematic, ShortenedDecoded}
 use Rattle.code.specs.Turns.{FirstThatHolds}
 use Rattle.code.specs.Table.{SpareBit, NoneNear, NoneWithMarks, sheetTurns, encodeTurns, readTurns, decodeTurns, markedTurns, cardTurns}
 use Rattle.code.specs.Table.{NoneNearSaid, NoCodewordSaid, NoneWithMarksSaid, Answered}
-use Rattle.code.specs.Table.{WrongShortening, NoneNearShortened, encodeShortenedTurns, readShortenedTurns, decodeShortenedTurns}
+use Rattle.code.specs.Table.{WrongShortening, NoneNearShortened, NoneNearShortenedSaid, NoShortenedCodewordSaid, encodeShortenedTurns, readShortenedTurns, decodeShortenedTurns}
 use Rattle.code.specs.Before.{PeriodCoprime, periodCoprime, judgeBefore, WorkingBefore, workingBefore, decodeWith}
 use Rattle.code.proofs.Tried.{judge-answered, encode-answered, read-answered, decode-answered, marked-answered, card-answered}
 use Rattle.code.proofs.Tried.{encode-short-answered, read-short-answered, decode-short-answered}
 use Rattle.code.proofs.Refusing.{read-sheet-bytes, sheet-first, marked-first, card-writes, text-refused-iff, text-listed-iff}
-use Rattle.code.proofs.Refusing.{shortened-first, thirteen-iff, fourteen-iff, fifteen-iff, sixteen-iff}
+use Rattle.code.proofs.Refusing.{shortened-first, thirteen-iff, fourteen-iff, fifteen-iff, sixteen-iff, thirteen-short-iff, fourteen-short-iff}
 use Rattle.code.proofs.Fits.{listing-fits}
 use Rattle.code.proofs.Worded.{word-spare-said, message-spare-said, mask-word, word-one, degree-said, dimension-said, generator-said}
 use Rattle.code.proofs.Worded.{generator-degree-said, multiple-said, zeros-said}
@@ -132,6 +132,10 @@ module _ (sheet : List ℕ) where
     -- 15 says, whatever was handed over: the sheet is accepted, lengths and spare bits are right, and no codeword has 2·e + r at most d - 1
     pub fifteen : (word marks zeros ones : List ℕ) → (decodeMarkedOf sheet word marks zeros ones .0 .number ≡ 15)
         ↔ NoneWithMarksSaid sheet word marks zeros ones
+    -- 13 and 14 say the same of a shortened code: m is right too, lengths and spare bits go by the places that are sent, and every shortened
+    -- codeword differs in more than t places, or the word is no shortened codeword
+    pub thirteen-short : (m : ℕ) (word out : List ℕ) → (decodeShortenedOf sheet m word out .0 .number ≡ 13) ↔ NoneNearShortenedSaid sheet m word out
+    pub fourteen-short : (m : ℕ) (word out : List ℕ) → (readShortenedOf sheet m word out .0 .number ≡ 14) ↔ NoShortenedCodewordSaid sheet m word out
     -- 16 says, whatever was handed over, of encoding, reading out and decoding a shortened code: the sheet is accepted, and m is 0 or not
     -- below k
     pub sixteen : (m : ℕ) (input out : List ℕ)
@@ -211,25 +215,25 @@ module _ (sheet : List ℕ) where
   -- ---- 2026-02, the encoder keeps only a remainder: of the bits of a mask a, taken in from the highest of so many bits down. That the
   -- code's register holds it after each bit is taken-kept of proofs/Kept.antt, by the invariant of take_message; that no reply or written
   -- byte differs is that encodeOf and readOf, and the contracts with them, are as they were; of buffers no contract speaks.
-  abbrev m : ℕ
-  m = x .n - k
+  abbrev checks : ℕ
+  checks = x .n - k
 
   abbrev g : ℕ
   g = generatorOf x
 
   pub record Request02 : Type 0 where
     -- nothing at first, and with one bit more the remainder of x·p + bit·x^(n-k), where p was kept
-    pub first : (bits a : ℕ) → kept m g bits a 0 ≡ 0
-    pub bit-in : (bits a j : ℕ) → j < bits → kept m g bits a (suc j) ≡ remainder m g (kept m g bits a j * 2 ⊕ coefficient (bits - suc j) a * 2 ^ m)
+    pub first : (bits a : ℕ) → kept checks g bits a 0 ≡ 0
+    pub bit-in : (bits a j : ℕ) → j < bits → kept checks g bits a (suc j) ≡ remainder checks g (kept checks g bits a j * 2 ⊕ coefficient (bits - suc j) a * 2 ^ checks)
     -- "after each bit, that of x^(n-k) times the bits taken so far, the last of them as x^0, by the generator"
     pub after-each-bit : IsAccepted sheet → (bits a j : ℕ) → a < 2 ^ bits → j ≤ bits
-        → kept m g bits a j ≡ remainder m g (a / 2 ^ (bits - j) * 2 ^ m)
+        → kept checks g bits a j ≡ remainder checks g (a / 2 ^ (bits - j) * 2 ^ checks)
     -- after a message's last bit it is what encoding writes below the message
     pub written : IsAccepted sheet → (message out : List ℕ) → Message x message → Bytes message → length out ≡ (x .n + 7) / 8
         → (word : List ℕ) × (encodeOf sheet message out ≡ (returned (0 ∷ []), word))
-        × (wordOf x word % 2 ^ m ≡ kept m g k (maskOf messageWeight k message) k)
+        × (wordOf x word % 2 ^ checks ≡ kept checks g k (maskOf messageWeight k message) k)
     -- after a word's last place it is 0 exactly for a codeword
-    pub word-test : IsAccepted sheet → (word : List ℕ) → CodewordOf x (wordOf x word) ↔ (kept m g (x .n) (wordOf x word) (x .n) ≡ 0)
+    pub word-test : IsAccepted sheet → (word : List ℕ) → CodewordOf x (wordOf x word) ↔ (kept checks g (x .n) (wordOf x word) (x .n) ≡ 0)
 
   -- ---- 2026-03, codes that the period rule turned away. Rule 3 of a certificate (specs/Published.antt, Rule3) is what document 001 needs;
   -- specs/Before.antt has the rule that it was.
@@ -335,7 +339,7 @@ module _ (sheet : List ℕ) where
     pub shown-short : (n : ℕ) (buffer : List ℕ) → length buffer ≤ (n + 7) / 8 → take ((n + 7) / 8) buffer ≡ buffer
 
   -- ---- 2026-06, shortened codes: "the top m message bits are 0 and the top m places aren't sent, so messages have k - m bits and words n - m".
-  -- ShortenedSheet says that the sheet is accepted and m is neither 0 nor k or more. A word of n - m places is the mask of n places that has 0
+  -- Shortenable says that the sheet is accepted, and that m is above 0 and below k. A word of n - m places is the mask of n places that has 0
   -- in the others, and a message likewise.
   pub record Request06 : Type 0 where
     pub word-places : (m : ℕ) (word : List ℕ) (i : ℕ) → (i < x .n - m → coefficient i (sentWordOf m x word) ≡ place wordWeight word i)
@@ -345,42 +349,43 @@ module _ (sheet : List ℕ) where
         × (k - m ≤ i → coefficient i (sentMessageOf m x message) ≡ 0)
     -- a shortened codeword is a codeword whose top m places are 0
     pub shortened : (m c : ℕ) → ShortenedCodeword m x c ↔ (CodewordOf x c × ((i : ℕ) → x .n - m ≤ i → i < x .n → coefficient i c ≡ 0))
-    -- encoding is that of the message with m zero bits above: what is sent of its codeword is the codeword, and 0 above
-    pub encodes-as : (m : ℕ) → ShortenedSheet sheet m → (message out whole all : List ℕ) → ShortenedMessage m x message
-        → length out ≡ (x .n - m + 7) / 8 → Message x whole → maskOf messageWeight k whole ≡ sentMessageOf m x message
-        → length all ≡ (x .n + 7) / 8 → wordOf x (encodeOf sheet whole all .1) ≡ sentWordOf m x (encodeShortenedOf sheet m message out .1)
+    -- encoding is that of the message with m zero bits above, which there is: its codeword is what is written here, with 0 above
+    pub encodes-as : (m : ℕ) → Shortenable sheet m → (message out : List ℕ) → ShortenedMessage m x message → length out ≡ (x .n - m + 7) / 8
+        → (whole : List ℕ) × Message x whole × Bytes whole × (maskOf messageWeight k whole ≡ sentMessageOf m x message)
+        × ((all : List ℕ) → length all ≡ (x .n + 7) / 8
+        → wordOf x (encodeOf sheet whole all .1) ≡ sentWordOf m x (encodeShortenedOf sheet m message out .1))
     -- each message is encoded into its systematic codeword, and reads back the same
-    pub encodes : (m : ℕ) → ShortenedSheet sheet m → (message out : List ℕ) → ShortenedMessage m x message → Bytes message
+    pub encodes : (m : ℕ) → Shortenable sheet m → (message out : List ℕ) → ShortenedMessage m x message → Bytes message
         → length out ≡ (x .n - m + 7) / 8
         → (word : List ℕ) × (encodeShortenedOf sheet m message out ≡ (returned (0 ∷ []), word)) × ShortenedSystematic m x message word
         × ((back : List ℕ) → length back ≡ (k - m + 7) / 8 → readShortenedOf sheet m word back ≡ (returned (0 ∷ []), message))
     -- each shortened codeword reads out as a message, which is encoded into it
-    pub reads : (m : ℕ) → ShortenedSheet sheet m → (word out : List ℕ) → ShortenedWord m x word → Bytes word
+    pub reads : (m : ℕ) → Shortenable sheet m → (word out : List ℕ) → ShortenedWord m x word → Bytes word
         → ShortenedCodeword m x (sentWordOf m x word) → length out ≡ (k - m + 7) / 8
         → (message : List ℕ) × ShortenedMessage m x message × Bytes message × (readShortenedOf sheet m word out ≡ (returned (0 ∷ []), message))
         × ((back : List ℕ) → length back ≡ (x .n - m + 7) / 8 → encodeShortenedOf sheet m message back ≡ (returned (0 ∷ []), word))
     -- what is no shortened codeword is refused with 14
-    pub no-codeword : (m : ℕ) → ShortenedSheet sheet m → (word out : List ℕ) → ShortenedWord m x word
+    pub no-codeword : (m : ℕ) → Shortenable sheet m → (word out : List ℕ) → ShortenedWord m x word
         → ¬ ShortenedCodeword m x (sentWordOf m x word) → length out ≡ (k - m + 7) / 8 → readShortenedOf sheet m word out ≡ (refused 14, out)
     -- "Decoding a shortened word gives the only shortened codeword within t": the number is 0 ⟺ there is one; and then it is written, with the
     -- number of changed places, and no other codeword, shortened or not, is within t
-    pub found : (m : ℕ) → ShortenedSheet sheet m → (word out : List ℕ) → ShortenedWord m x word → length out ≡ (x .n - m + 7) / 8
+    pub found : (m : ℕ) → Shortenable sheet m → (word out : List ℕ) → ShortenedWord m x word → length out ≡ (x .n - m + 7) / 8
         → (decodeShortenedOf sheet m word out .0 .number ≡ 0)
         ↔ ((c : ℕ) × ShortenedCodeword m x c × (differences (x .n) (sentWordOf m x word) c ≤ t))
-    pub decoded : (m : ℕ) → ShortenedSheet sheet m → (word out : List ℕ) → ShortenedWord m x word → length out ≡ (x .n - m + 7) / 8
+    pub decoded : (m : ℕ) → Shortenable sheet m → (word out : List ℕ) → ShortenedWord m x word → length out ≡ (x .n - m + 7) / 8
         → decodeShortenedOf sheet m word out .0 .number ≡ 0 → ShortenedDecoded m x word (decodeShortenedOf sheet m word out)
     -- "and 13 exactly if there is none",
-    pub none : (m : ℕ) → ShortenedSheet sheet m → (word out : List ℕ) → ShortenedWord m x word → length out ≡ (x .n - m + 7) / 8
+    pub none : (m : ℕ) → Shortenable sheet m → (word out : List ℕ) → ShortenedWord m x word → length out ≡ (x .n - m + 7) / 8
         → (decodeShortenedOf sheet m word out .0 .number ≡ 13) ↔ NoneNearShortened m x word
     -- "also where an unshortened codeword was near": within t of a codeword that is no shortened one
-    pub other-near : (m : ℕ) → ShortenedSheet sheet m → (word out : List ℕ) → ShortenedWord m x word → length out ≡ (x .n - m + 7) / 8
+    pub other-near : (m : ℕ) → Shortenable sheet m → (word out : List ℕ) → ShortenedWord m x word → length out ≡ (x .n - m + 7) / 8
         → (c : ℕ) → CodewordOf x c → differences (x .n) (sentWordOf m x word) c ≤ t → ¬ ShortenedCodeword m x c
         → decodeShortenedOf sheet m word out ≡ (refused 13, out)
     -- in how many places a word and a shortened codeword differ: those that are sent
-    pub differ : (m : ℕ) → ShortenedSheet sheet m → (word : List ℕ) (c : ℕ) → ShortenedCodeword m x c
+    pub differ : (m : ℕ) (word : List ℕ) (c : ℕ) → ShortenedCodeword m x c
         → differences (x .n) (sentWordOf m x word) c ≡ total (x .n - m) (λ i. (place wordWeight word i + coefficient i c) % 2)
     -- any two different shortened codewords differ in at least d of them
-    pub apart : (m : ℕ) → ShortenedSheet sheet m → (b c : ℕ) → ShortenedCodeword m x b → ShortenedCodeword m x c → b ≢ c
+    pub apart : IsAccepted sheet → (m b c : ℕ) → ShortenedCodeword m x b → ShortenedCodeword m x c → b ≢ c
         → d ≤ differences (x .n - m) b c
 
 -- ---- of bytes alone: 2026-01, highest bit first: for all bytes; spare bits for a buffer of the right length
@@ -419,6 +424,8 @@ demand-1 sheet = record {
   thirteen = thirteen-iff sheet;
   fourteen = fourteen-iff sheet;
   fifteen = fifteen-iff sheet;
+  thirteen-short = thirteen-short-iff sheet;
+  fourteen-short = fourteen-short-iff sheet;
   sixteen = sixteen-iff sheet;
 }
 
@@ -534,6 +541,6 @@ request-06 sheet = record {
   decoded = Shortened.decoded-said sheet;
   none = Shortened.none-said sheet;
   other-near = Shortened.other-near sheet;
-  differ = Shortened.counted-said sheet;
+  differ = Shortened.counted-said (stated sheet);
   apart = Shortened.apart-said sheet;
 }

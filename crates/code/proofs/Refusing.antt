@@ -3,7 +3,8 @@
 --   read-sheet-bytes         what is stated is what a sheet's bytes say
 --   sheet-first, marked-first, shortened-first      every entry but card refuses with the sheet's refusal
 --   card-writes, text-refused-iff, text-listed-iff      the text that card writes
---   thirteen-iff, fourteen-iff, fifteen-iff, sixteen-iff      what 13 to 16 say, whatever was handed over
+--   thirteen-iff, fourteen-iff, fifteen-iff, sixteen-iff, thirteen-short-iff, fourteen-short-iff      what 13 to 16 say, whatever was
+--                            handed over
 use mathlib.Core.Path.{_≡_, refl, sym, ap, _∙_}
 use mathlib.Core.Logic.{_↔_, inl, inr}
 use mathlib.Core.Bool.{Bool, true, false}
@@ -31,9 +32,10 @@ use Rattle.document.proofs.CardIs.{refused-injective, accepted-other}
 use Rattle.certificate.proofs.Sheets as Sheets
 use Rattle.code.specs.Turns.{Turns, FirstThatHolds}
 use Rattle.code.specs.Published.{IsAccepted, CertificateRead, SheetRead}
-use Rattle.code.specs.Table.{WrongShortening, NoneNearSaid, NoCodewordSaid, NoneWithMarksSaid, decodeOwn, readOwn, markedOwn, lastRefusal}
-use Rattle.code.proofs.InTurn.{stable, said-none, said-first}
-use Rattle.code.proofs.Tried.{card-said, read-own, decode-own, marked-own, shortening-said}
+use Rattle.code.specs.Table.{WrongShortening, NoneNearShortenedSaid, NoShortenedCodewordSaid, readShortenedOwn, decodeShortenedOwn}
+use Rattle.code.specs.Table.{NoneNearSaid, NoCodewordSaid, NoneWithMarksSaid, decodeOwn, readOwn, markedOwn, lastRefusal}
+use Rattle.code.proofs.InTurn.{Said, stable, said-none, said-first}
+use Rattle.code.proofs.Tried.{card-said, read-own, decode-own, marked-own, shortening-said, read-short-own, decode-short-own}
 
 -- ---- the text, by the number of the sheet's first condition
 text-accepted : (x : Stated) (r : ℕ) → (listingFor 0 x ≡ refusedLine r) ↔ (settle 0 (recordOf x) [] [] .0 ≡ refused r)
@@ -316,3 +318,70 @@ module _ (sheet : List ℕ) where
               λ q. sixteen-own own h .0 (sym e ∙ q),
               λ s. e ∙ sixteen-own own h .1 s,
             )
+
+    -- ---- 13 and 14 of a shortened code
+    rows-said : (own : Conditions) (turns : Turns) → Said lastRefusal own turns
+        → Said lastRefusal (shorteningConditions m x ++ own) ((16, WrongShortening m x) ∷ turns)
+    rows-said own turns s = (omega arith, omega arith, refl, shortening-said sheet m, λ n. s)
+
+    thirteen-short-rows : (word out : List ℕ) → IsAccepted sheet → FirstThatHolds ((16, WrongShortening m x) ∷ decodeShortenedOwn m x word out) 13
+        → NoneNearShortenedSaid sheet m word out
+    thirteen-short-rows word out a (inl h) = absurd (omega (arith, h .0))
+    thirteen-short-rows word out a (inr (n₀, inl h)) = absurd (omega (arith, h .0))
+    thirteen-short-rows word out a (inr (n₀, inr (n₁, inl h))) = absurd (omega (arith, h .0))
+    thirteen-short-rows word out a (inr (n₀, inr (n₁, inr (n₂, inl h)))) = absurd (omega (arith, h .0))
+    thirteen-short-rows word out a (inr (n₀, inr (n₁, inr (n₂, inr (n₃, inl h))))) =
+        record { accepted = a; right = n₀; word-long = same n₁; out-long = same n₂; no-spare = n₃; none = h .1 }
+    thirteen-short-rows word out a (inr (n₀, inr (n₁, inr (n₂, inr (n₃, inr h))))) = absurd (h .1)
+
+    fourteen-short-rows : (word out : List ℕ) → IsAccepted sheet → FirstThatHolds ((16, WrongShortening m x) ∷ readShortenedOwn m x word out) 14
+        → NoShortenedCodewordSaid sheet m word out
+    fourteen-short-rows word out a (inl h) = absurd (omega (arith, h .0))
+    fourteen-short-rows word out a (inr (n₀, inl h)) = absurd (omega (arith, h .0))
+    fourteen-short-rows word out a (inr (n₀, inr (n₁, inl h))) = absurd (omega (arith, h .0))
+    fourteen-short-rows word out a (inr (n₀, inr (n₁, inr (n₂, inl h)))) = absurd (omega (arith, h .0))
+    fourteen-short-rows word out a (inr (n₀, inr (n₁, inr (n₂, inr (n₃, inl h))))) =
+        record { accepted = a; right = n₀; word-long = same n₁; out-long = same n₂; no-spare = n₃; none = h .1 }
+    fourteen-short-rows word out a (inr (n₀, inr (n₁, inr (n₂, inr (n₃, inr h))))) = absurd (h .1)
+
+    -- the number of the first condition, of the sheet's, 16 and the entry's own
+    first-all : (own : Conditions) → firstOf (refusalsToShorten sheet m ++ own) ≡ firstOf (refusalsOf sheet ++ (shorteningConditions m x ++ own))
+    first-all own = ap firstOf (append-assoc (refusalsOf sheet) (shorteningConditions m x) own)
+
+    pub thirteen-short-iff : (word out : List ℕ) → (decodeShortenedOf sheet m word out .0 .number ≡ 13) ↔ NoneNearShortenedSaid sheet m word out
+    unfolding decodeShortenedEntry
+    thirteen-short-iff word out =
+        let own : Conditions = decodeShortenedConditions m x word out in
+        let t : Turns = (16, WrongShortening m x) ∷ decodeShortenedOwn m x word out in
+        let e : decodeShortenedOf sheet m word out .0 .number ≡ firstOf (refusalsOf sheet ++ (shorteningConditions m x ++ own)) =
+        settle-number _ _ _ _ ∙ first-all own in
+        let w = own-first (shorteningConditions m x ++ own) 13 (omega arith) in (
+          λ q. (let z = w .0 (sym e ∙ q) in
+              thirteen-short-rows word out (is-accepted (z .0))
+              (said-first lastRefusal (shorteningConditions m x ++ own) t (rows-said own (decodeShortenedOwn m x word out) (decode-short-own sheet m word out (usable (z .0)))) 13 (omega arith) .0 (z .1))),
+          λ s. (let z : firstOf (refusalsOf sheet) ≡ 0 = accepted-is (s .accepted) in
+              e ∙ w .1 (
+                z,
+                said-first lastRefusal (shorteningConditions m x ++ own) t (rows-said own (decodeShortenedOwn m x word out) (decode-short-own sheet m word out (usable z))) 13 (omega arith) .1
+                    (inr (s .right, inr (λ n. n (s .word-long), inr (λ n. n (s .out-long), inr (s .no-spare, inl (refl, s .none)))))),
+              )),
+        )
+
+    pub fourteen-short-iff : (word out : List ℕ) → (readShortenedOf sheet m word out .0 .number ≡ 14) ↔ NoShortenedCodewordSaid sheet m word out
+    unfolding readShortenedEntry
+    fourteen-short-iff word out =
+        let own : Conditions = readShortenedConditions m x word out in
+        let t : Turns = (16, WrongShortening m x) ∷ readShortenedOwn m x word out in
+        let e : readShortenedOf sheet m word out .0 .number ≡ firstOf (refusalsOf sheet ++ (shorteningConditions m x ++ own)) =
+        settle-number _ _ _ _ ∙ first-all own in
+        let w = own-first (shorteningConditions m x ++ own) 14 (omega arith) in (
+          λ q. (let z = w .0 (sym e ∙ q) in
+              fourteen-short-rows word out (is-accepted (z .0))
+              (said-first lastRefusal (shorteningConditions m x ++ own) t (rows-said own (readShortenedOwn m x word out) (read-short-own sheet m word out)) 14 (omega arith) .0 (z .1))),
+          λ s. (let z : firstOf (refusalsOf sheet) ≡ 0 = accepted-is (s .accepted) in
+              e ∙ w .1 (
+                z,
+                said-first lastRefusal (shorteningConditions m x ++ own) t (rows-said own (readShortenedOwn m x word out) (read-short-own sheet m word out)) 14 (omega arith) .1
+                    (inr (s .right, inr (λ n. n (s .word-long), inr (λ n. n (s .out-long), inr (s .no-spare, inl (refl, s .none)))))),
+              )),
+        )

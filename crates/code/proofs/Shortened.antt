@@ -2,13 +2,12 @@
 --
 --   shortened-iff          a codeword whose top m places are 0, place by place
 --   sent-word, sent-message      words and messages of a shortened code as masks: place i, and 0 from the last place sent on
+--   counted-said, apart-said     changed places are places that are sent; shortened codewords are far apart in these
 --   codewordSent, messageSent      the codeword of a message, and the message in a word, in bytes
 --   encodes-said, reads-said, refused-said      the round trip, both ways, and 14
 --   encoded-as             encoding is that of the message with m zero bits above
 --   found-said, decoded-said, none-said      decoding
---   apart-said             shortened codewords are far apart in the places that are sent
 --   other-near             13 where a codeword that is no shortened one is near
---   counted-said           changed places are places that are sent
 use mathlib.Core.Path.{_≡_, refl, sym, ap, ap₂, _∙_, subst}
 use mathlib.Core.Logic.{_≢_, _↔_, _⊎_, inl, inr}
 use mathlib.Core.Bool.{Bool, true, false, not, _||_}
@@ -48,7 +47,7 @@ use Rattle.certificate.proofs.Sheets as Sheets
 use Rattle.certificate.proofs.Shortening.{ShortenedForm, shortened-writes, shortened-refuses, shortened-either}
 use Rattle.codeword.specs.Codewords.{Usable}
 use Rattle.codeword.proofs.Places.{word-weights, message-weights, mask-lt, mask-coefficient, mask-above, for-le, bytes-lt, bytes-place, mask-of-bytes, bytes-of-mask}
-use Rattle.code.specs.Published.{IsAccepted, Bytes, Message, ShortenedSheet, ShortenedWord, ShortenedMessage, ShortenedSystematic, ShortenedDecoded}
+use Rattle.code.specs.Published.{IsAccepted, Bytes, Message, Shortenable, ShortenedWord, ShortenedMessage, ShortenedSystematic, ShortenedDecoded}
 use Rattle.code.specs.Table.{NoneNearShortened}
 use Rattle.code.proofs.Accepted.{usable}
 use Rattle.code.proofs.Entries.{encode-short-accepted, read-short-accepted, encode-done, read-none, read-done}
@@ -82,8 +81,25 @@ differ-below : (n q a b : ℕ) → q ≤ n → a < 2 ^ q → b < 2 ^ q → diffe
 unfolding differences
 differ-below n q a b h l k = total-still q n (λ i. coefficient i (a ⊕ b)) h (λ i j. coefficient-above (⊕-lt q a b l k) i j)
 
--- ---- an accepted sheet, and an m that may be left out
-module _ (sheet : List ℕ) (m : ℕ) (h : ShortenedSheet sheet m) where
+-- ---- places that are sent
+module _ (x : Stated) (m : ℕ) where
+  pub counted-said : (word : List ℕ) (c : ℕ) → ShortenedCodeword m x c
+      → differences (x .n) (sentWordOf m x word) c ≡ total (x .n - m) (λ i. (place wordWeight word i + coefficient i c) % 2)
+  unfolding differences
+  counted-said word c v =
+      differ-below (x .n) (x .n - m) (sentWordOf m x word) c (omega arith) (mask-lt wordWeight (x .n - m) word) (v .top-zero)
+      ∙ total-ext (x .n - m) (λ i. coefficient i (sentWordOf m x word ⊕ c)) (λ i. (place wordWeight word i + coefficient i c) % 2)
+      (λ i j. differ-at (sentWordOf m x word) c i ∙ ap (λ (y : ℕ). (y + coefficient i c) % 2) (mask-coefficient wordWeight (x .n - m) word i j))
+
+pub apart-said : (sheet : List ℕ) → IsAccepted sheet → (m b c : ℕ) → ShortenedCodeword m (stated sheet) b → ShortenedCodeword m (stated sheet) c → b ≢ c
+    → distance (workingCertificate (stated sheet)) ≤ differences (stated sheet .n - m) b c
+apart-said sheet accepted m b c v w ne =
+    subst (λ (y : ℕ). distance (workingCertificate (stated sheet)) ≤ y)
+    (differ-below (stated sheet .n) (stated sheet .n - m) b c (omega arith) (v .top-zero) (w .top-zero))
+    (apart-whole sheet accepted b c (v .is-codeword) (w .is-codeword) ne)
+
+-- ---- an accepted sheet whose code can be shortened by m
+module _ (sheet : List ℕ) (m : ℕ) (h : Shortenable sheet m) where
   abbrev x : Stated
   x = stated sheet
 
@@ -265,18 +281,28 @@ module _ (sheet : List ℕ) (m : ℕ) (h : ShortenedSheet sheet m) where
       tested false q = q
 
   -- ---- the message with m zero bits above
-  pub encoded-as : (message out whole all : List ℕ) → ShortenedMessage m x message → length out ≡ (n - m + 7) / 8
-      → Message x whole → maskOf messageWeight k whole ≡ sentMessageOf m x message → length all ≡ (n + 7) / 8
-      → wordOf x (encodeOf sheet whole all .1) ≡ sentWordOf m x (encodeShortenedOf sheet m message out .1)
+  pub encoded-as : (message out : List ℕ) → ShortenedMessage m x message → length out ≡ (n - m + 7) / 8
+      → (whole : List ℕ) × Message x whole × Bytes whole × (maskOf messageWeight k whole ≡ sentMessageOf m x message)
+      × ((all : List ℕ) → length all ≡ (n + 7) / 8
+      → wordOf x (encodeOf sheet whole all .1) ≡ sentWordOf m x (encodeShortenedOf sheet m message out .1))
   unfolding encodedWord encodedShortened bytesFor
-  encoded-as message out whole all f b v e c =
-      ap (λ (y : Answer × List ℕ). wordOf x (y .1)) (sym (RoundTrip.encodes short sheet (omega arith) (h .accepted) all (places-there v) c))
-      ∙ mask-of-bytes word-weights n (encodedWord x whole) (whole-lt e)
-      ∙ ap (encodeMask (n - k) g) e ∙ sym (word-is message)
-      ∙ ap (λ (y : Answer × List ℕ). sentWordOf m x (y .1)) (encodes out f b)
-    where
-      whole-lt : maskOf messageWeight k whole ≡ sentMessageOf m x message → encodedWord x whole < 2 ^ n
-      whole-lt e = subst (λ (y : ℕ). encodeMask (n - k) g y < 2 ^ n) (sym e) (lt-of-lt-of-le (encoded-lt message) (pow-mono (omega arith)))
+  encoded-as message out f b =
+      let c : ℕ = sentMessageOf m x message in
+      let small : c < 2 ^ k = lt-of-lt-of-le (mask-lt messageWeight (k - m) message) (pow-mono (omega arith)) in
+      let whole : List ℕ = bytesOf messageWeight k c in
+      let p = RoundTrip.placed-bytes message-weights k c small in
+      let e : maskOf messageWeight k whole ≡ c = mask-of-bytes message-weights k c small in (
+        whole,
+        places-back p,
+        bytes-lt message-weights k c,
+        e,
+        λ all l.
+            ap (λ (y : Answer × List ℕ). wordOf x (y .1)) (sym (RoundTrip.encodes short sheet (omega arith) (h .accepted) all p l))
+            ∙ mask-of-bytes word-weights n (encodedWord x whole)
+            (subst (λ (y : ℕ). encodeMask (n - k) g y < 2 ^ n) (sym e) (lt-of-lt-of-le (encoded-lt message) (pow-mono (omega arith))))
+            ∙ ap (encodeMask (n - k) g) e ∙ sym (word-is message)
+            ∙ ap (λ (y : Answer × List ℕ). sentWordOf m x (y .1)) (encodes out f b),
+      )
 
   -- ---- decoding
   module _ (word out : List ℕ) (f : ShortenedWord m x word) (b : length out ≡ (n - m + 7) / 8) where
@@ -338,20 +364,3 @@ module _ (sheet : List ℕ) (m : ℕ) (h : ShortenedSheet sheet m) where
               absurd (none (subst (ShortenedCodeword m x)
               (Sheets.sheet-unique a (sentWordOf m x word) (w .is-codeword) v (omega arith) j) w))
         ]))
-
-  -- ---- places that are sent
-  pub apart-said : (b c : ℕ) → ShortenedCodeword m x b → ShortenedCodeword m x c → b ≢ c → distance (workingCertificate x) ≤ differences (n - m) b c
-  apart-said b c v w ne =
-      subst (λ (y : ℕ). distance (workingCertificate x) ≤ y) (differ-below n (n - m) b c (omega arith) (v .top-zero) (w .top-zero))
-      (apart-whole sheet (h .accepted) b c (v .is-codeword) (w .is-codeword) ne)
-
-  pub counted-said : (word : List ℕ) (c : ℕ) → ShortenedCodeword m x c
-      → differences n (sentWordOf m x word) c ≡ total (n - m) (λ i. (place wordWeight word i + coefficient i c) % 2)
-  unfolding differences
-  counted-said word c v =
-      differ-below n (n - m) (sentWordOf m x word) c (omega arith) (word-lt word) (v .top-zero) ∙ places
-    where
-      places : differences (n - m) (sentWordOf m x word) c ≡ total (n - m) (λ i. (place wordWeight word i + coefficient i c) % 2)
-      places =
-          total-ext (n - m) (λ i. coefficient i (sentWordOf m x word ⊕ c)) (λ i. (place wordWeight word i + coefficient i c) % 2)
-          (λ i j. differ-at (sentWordOf m x word) c i ∙ ap (λ (y : ℕ). (y + coefficient i c) % 2) (mask-coefficient wordWeight (n - m) word i j))

@@ -325,7 +325,7 @@ module _ (sheet : List ℕ) where
         λ c. c .is-codeword .is,
       )
 
-      read-short-own : Said lastRefusal (readShortenedConditions m x input out) (readShortenedOwn m x input out)
+      pub read-short-own : Said lastRefusal (readShortenedConditions m x input out) (readShortenedOwn m x input out)
       unfolding readShortenedConditions
       read-short-own = (
         omega arith,
@@ -353,7 +353,7 @@ module _ (sheet : List ℕ) where
         ),
       )
 
-      decode-short-own : Sheets.Accepted x → Said lastRefusal (decodeShortenedConditions m x input out) (decodeShortenedOwn m x input out)
+      pub decode-short-own : Sheets.Accepted x → Said lastRefusal (decodeShortenedConditions m x input out) (decodeShortenedOwn m x input out)
       unfolding decodeShortenedConditions
       decode-short-own a = (
         omega arith,

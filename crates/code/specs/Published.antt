@@ -11,7 +11,7 @@
 --   Rule1 .. Rule4, Published      the rules of a certificate
 --   Rounded, Working, WorkingIs      d, and the working certificate with d, t and its number of terms
 --   MarkedCall                     a call of decoding with marks that draws none of 1 to 12
---   ShortenedSheet m               an accepted sheet, and an m that may be left out (2026-06)
+--   Shortenable sheet m            the sheet is accepted, and its code can be shortened by m (2026-06)
 --   ShortenedWord, ShortenedMessage      words and messages of a shortened code in bytes
 --   Systematic, WordDecoded, WordShown      what encoding, decoding, and decoding with marks write
 --   ShortenedSystematic, ShortenedDecoded      the same of a shortened code
@@ -235,7 +235,7 @@ pub record WordShown (x : Stated) (word marks : List ℕ) (reply : Answer × (Li
   pub others : (c : ℕ) → CodewordOf x c → c ≢ wordOf x shown → ¬ WithinMarks x word marks c
 
 -- ---- shortened codes (2026-06)
-pub record ShortenedSheet (sheet : List ℕ) (m : ℕ) : Type 0 where
+pub record Shortenable (sheet : List ℕ) (m : ℕ) : Type 0 where
   pub accepted : IsAccepted sheet
   pub some : 0 < m
   pub less : m < dimensionOf (stated sheet)

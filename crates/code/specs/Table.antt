@@ -4,6 +4,7 @@
 --   WrongBufferLength, SpareBit, NoneNear, NoneWithMarks      11, 12, 13 and 15
 --   WrongShortening, NoneNearShortened      16, and 13 of a shortened code
 --   NoneNearSaid, NoCodewordSaid, NoneWithMarksSaid      what 13, 14 and 15 say
+--   NoneNearShortenedSaid, NoShortenedCodewordSaid       what 13 and 14 say of a shortened code
 --   certificateTurns               7 to 10, of one certificate
 --   sheetTurns sheet               1 to 10
 --   encodeTurns, readTurns, decodeTurns, markedTurns, cardTurns      all that an entry tries
@@ -223,6 +224,22 @@ pub record NoneWithMarksSaid (sheet word marks zeros ones : List ℕ) : Type 0 w
   pub no-spare : ¬ SpareBit wordWeight (stated sheet .n) word
   pub no-spare-mark : ¬ SpareBit wordWeight (stated sheet .n) marks
   pub none : NoneWithMarks (stated sheet) word marks
+
+pub record NoneNearShortenedSaid (sheet : List ℕ) (m : ℕ) (word out : List ℕ) : Type 0 where
+  pub accepted : IsAccepted sheet
+  pub right : ¬ WrongShortening m (stated sheet)
+  pub word-long : length word ≡ (stated sheet .n - m + 7) / 8
+  pub out-long : length out ≡ (stated sheet .n - m + 7) / 8
+  pub no-spare : ¬ SpareBit wordWeight (stated sheet .n - m) word
+  pub none : NoneNearShortened m (stated sheet) word
+
+pub record NoShortenedCodewordSaid (sheet : List ℕ) (m : ℕ) (word out : List ℕ) : Type 0 where
+  pub accepted : IsAccepted sheet
+  pub right : ¬ WrongShortening m (stated sheet)
+  pub word-long : length word ≡ (stated sheet .n - m + 7) / 8
+  pub out-long : length out ≡ (dimensionOf (stated sheet) - m + 7) / 8
+  pub no-spare : ¬ SpareBit wordWeight (stated sheet .n - m) word
+  pub none : ¬ ShortenedCodeword m (stated sheet) (sentWordOf m (stated sheet) word)
 
 -- card's buffer has 1,024 bytes; a refused sheet has a listing too
 abbrev pub cardTurns : List ℕ → Turns

@@ -93,7 +93,7 @@ module _ {n sent size count : ℕ} {words before : List ℕ} (w : Lined n sent s
       let a : k * size + size ≤ length words = line-room k h in
       let b : k * size + size ≤ length out = let c = out-room k h in omega arith in
       rw p (record {
-        some = w .some;
+        at-most = w .at-most;
         word-long = part-long (k * size) size words a ∙ w .size-is;
         out-long = part-long (k * size) size out b ∙ w .size-is;
         clear = w .clear k h;
@@ -105,7 +105,7 @@ pub line-one : {n sent size : ℕ} {word out : List ℕ} (count : ℕ) → count
 line-one {n} {sent} {size} {word} {out} count c l e a b d =
     let z : count * size ≡ size = ap (λ (i : ℕ). i * size) c ∙ one-mul size in
     record {
-      some = l;
+      at-most = l;
       size-is = e;
       words-long = omega arith;
       out-long = omega arith;

@@ -42,16 +42,16 @@ use Rattle.decoder.specs.Repair.{PlacesOf, Repairable, Repaired, Reached
 use Rattle.decoder.specs.Correct.{Held, Corrected}
 use Rattle.decoder.specs.Decode.{States, Decoded, Receivable, verdictAs}
 
--- ---- a list of places below some number makes a mask of so many places
+-- ---- a list of places below fits number makes a mask of so many places
 sum-lt : (list : List ℕ) (q m : ℕ) → ((k : ℕ) → k < m → getD list k 0 < q) → sumOver (λ j. 2 ^ j) list m < 2 ^ q
 sum-lt list q zero h = subst (λ (x : ℕ). x < 2 ^ q) (sym (over-z (λ j. 2 ^ j) list)) (pow-pos q)
 sum-lt list q (suc m) h =
     subst (λ (x : ℕ). x < 2 ^ q) (sym (over-s (λ j. 2 ^ j) list m))
     (⊕-lt q (sumOver (λ j. 2 ^ j) list m) (2 ^ getD list m 0) (sum-lt list q m (λ k l. h k (omega arith))) (pow-lt (h m (omega arith))))
 
-module _ {n sent : ℕ} (some : sent ≤ n) (word : List ℕ) (a : length word ≡ bytesFor sent) (d : spare wordWeight sent word ≡ false) where
+module _ {n sent : ℕ} (fits : sent ≤ n) (word : List ℕ) (a : length word ≡ bytesFor sent) (d : spare wordWeight sent word ≡ false) where
   small : maskOf wordWeight sent word < 2 ^ n
-  small = lt-of-lt-of-le (mask-lt wordWeight sent word) (pow-mono some)
+  small = lt-of-lt-of-le (mask-lt wordWeight sent word) (pow-mono fits)
 
   pub held : Held n (placesOf word)
   unfolding bytesFor
@@ -60,7 +60,7 @@ module _ {n sent : ℕ} (some : sent ≤ n) (word : List ℕ) (a : length word �
     small = small;
     holds = places-hold sent word a d;
     whole = omega (arith, places-length word);
-    most = omega (arith, a, some, places-length word);
+    most = omega (arith, a, fits, places-length word);
   }
 
   module _ {t m : ℕ} {reps list : List ℕ} {answer : Answer} (y : Corrected n t reps (placesOf word) list answer) (e : answer ≡ returned (m ∷ [])) where
@@ -117,7 +117,7 @@ module _ {x : Stated} {n sent t : ℕ} {reps : List ℕ} (u : States x n t reps)
             ∙ first-false (11, wrongSize places out) _ (size-right places out (b ∙ ap bytesFor es))
             ∙ first-true (12, spare wordWeight places word) _ (ap (λ (m : ℕ). spare wordWeight m word) (sym es) ∙ h))
 
-        module _ (some : sent ≤ n) (d : spare wordWeight sent word ≡ false) where
+        module _ (fits : sent ≤ n) (d : spare wordWeight sent word ≡ false) where
           abbrev r : ℕ
           r = maskOf wordWeight sent word
 
@@ -143,13 +143,13 @@ module _ {x : Stated} {n sent t : ℕ} {reps : List ℕ} (u : States x n t reps)
 
           far : {list : List ℕ} {answer : Answer} → Corrected n t reps (placesOf word) list answer → answer ≡ refused 13
               → (refused 13, out) ≡ decodeShortenedEntry [] m x word out
-          far y e = refuse (λ c v l. y .none holds (small some word a d) e c v)
+          far y e = refuse (λ c v l. y .none holds (small fits word a d) e c v)
 
           -- the codeword that was found has a 1 where nothing was sent, and no other is within t places
           beyond : {list : List ℕ} {answer : Answer} {count : ℕ} {b : Bool} → Corrected n t reps (placesOf word) list answer → answer ≡ returned (count ∷ [])
               → Reached list count sent b → b ≡ true → (refused 13, out) ≡ decodeShortenedEntry [] m x word out
           beyond {list} {count = count} y e b z =
-              let f = y .found holds (small some word a d) e in
+              let f = y .found holds (small fits word a d) e in
               let k = b .yes z in
               let at : ℕ = getD list (k .0) 0 in
               let one : coefficient at (r ⊕ f .0) ≡ 1 =
@@ -181,7 +181,7 @@ module _ {x : Stated} {n sent t : ℕ} {reps : List ℕ} (u : States x n t reps)
               → Reached list count sent z → z ≡ false → Repaired word list count out′ → length out′ ≡ length out → ((i : ℕ) → getD out′ i 0 < 256)
               → (returned (count ∷ []), out′) ≡ decodeShortenedEntry [] m x word out
           done {list = list} {out′ = out′} {count = count} y e k z p long bytes =
-              let f = y .found holds (small some word a d) e in
+              let f = y .found holds (small fits word a d) e in
               let c : ℕ = r ⊕ f .0 in
               let changes : sumOver (λ j. 2 ^ j) list count ≡ f .0 = listed-mask (f .0) (f .4) (f .5) in
               let short : c < 2 ^ sent =
@@ -219,7 +219,7 @@ verdict-count {v} e = sym (ap (λ b. elim b as (λ _. Answer) [ true ↦ refused
 
 module _ {n sent : ℕ} {word out : List ℕ} (r : Receivable n sent word out) where
   pub received-held : Held n (placesOf word)
-  received-held = held (r .some) word (r .word-long) (r .clear)
+  received-held = held (r .at-most) word (r .word-long) (r .clear)
 
   module _ {t : ℕ} {reps list : List ℕ} {answer : Answer} (y : Corrected n t reps (placesOf word) list answer) where
     abbrev Is : List ℕ → Answer → Type 0
@@ -228,28 +228,28 @@ module _ {n sent : ℕ} {word out : List ℕ} (r : Receivable n sent word out) w
     pub received-far : answer ≡ refused 13 → Is out (verdictAs 65535)
     received-far e =
         subst (Is out) (verdict-far {v = 65535} refl)
-        record { is = λ x u m es. far u m es word out (r .word-long) (r .out-long) (r .some) (r .clear) y e }
+        record { is = λ x u m es. far u m es word out (r .word-long) (r .out-long) (r .at-most) (r .clear) y e }
 
     module _ {m : ℕ} (e : answer ≡ returned (m ∷ [])) where
       pub received-listed : n ≤ length list → m ≤ length list
-      received-listed l = omega (arith, y .found (places-hold sent word (r .word-long) (r .clear)) (small (r .some) word (r .word-long) (r .clear)) e .5 .le)
+      received-listed l = omega (arith, y .found (places-hold sent word (r .word-long) (r .clear)) (small (r .at-most) word (r .word-long) (r .clear)) e .5 .le)
 
       module _ {z : Bool} (k : Reached list m sent z) where
         pub received-beyond : z ≡ true → Is out (verdictAs 65535)
         received-beyond q =
             subst (Is out) (verdict-far {v = 65535} refl)
-            record { is = λ x u m es. beyond u m es word out (r .word-long) (r .out-long) (r .some) (r .clear) y e k q }
+            record { is = λ x u m es. beyond u m es word out (r .word-long) (r .out-long) (r .at-most) (r .clear) y e k q }
 
         pub received-repairable : z ≡ false → n ≤ length list → Repairable word list m out
-        received-repairable q l = repairable (r .some) word (r .word-long) (r .clear) y e (r .out-long) l k q
+        received-repairable q l = repairable (r .at-most) word (r .word-long) (r .clear) y e (r .out-long) l k q
 
         pub received-done : z ≡ false → n ≤ 127 → {out′ : List ℕ} → Repaired word list m out′ → length out′ ≡ length out
             → ((i : ℕ) → getD out′ i 0 < 256) → Is out′ (verdictAs m)
         received-done q few {out′} p long bytes =
-            let f = y .found (places-hold sent word (r .word-long) (r .clear)) (small (r .some) word (r .word-long) (r .clear)) e .5 in
+            let f = y .found (places-hold sent word (r .word-long) (r .clear)) (small (r .at-most) word (r .word-long) (r .clear)) e .5 in
             let s : m ≢ 65535 = λ q. omega (arith, f .le) in
             subst (Is out′) (verdict-count s)
-            record { is = λ x u m es. done u m es word out (r .word-long) (r .out-long) (r .some) (r .clear) y e k q p long bytes }
+            record { is = λ x u m es. done u m es word out (r .word-long) (r .out-long) (r .at-most) (r .clear) y e k q p long bytes }
 
 -- ---- a word's verdict
 module _ {n sent t : ℕ} {reps word out out′ : List ℕ} {v : ℕ} (y : Decoded n sent t reps word out out′ (verdictAs v)) where

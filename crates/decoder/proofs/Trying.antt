@@ -197,7 +197,7 @@ module _ {n : ℕ} {word marks zeros ones trials : List ℕ} (m : Markable n wor
   pub trials-lined : {count : ℕ} {out : List ℕ} → count ≡ 2 → out ≡ trials → Lined n n size count trials out
   trials-lined {count} e o =
       record {
-        some = omega arith;
+        at-most = omega arith;
         size-is = m .word-long;
         words-long = t .long ∙ ap (λ (k : ℕ). k * size) (sym e);
         out-long = ap length o ∙ t .long ∙ ap (λ (k : ℕ). k * size) (sym e);

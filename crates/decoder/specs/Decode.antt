@@ -32,7 +32,7 @@ pub record Decoded (n sent t : ℕ) (reps word out out′ : List ℕ) (answer : 
 
 -- ---- several words
 pub record Receivable (n sent : ℕ) (word out : List ℕ) : Type 0 where
-  pub some : sent ≤ n
+  pub at-most : sent ≤ n
   pub word-long : length word ≡ bytesFor sent
   pub out-long : length out ≡ bytesFor sent
   pub clear : spare wordWeight sent word ≡ false
@@ -44,7 +44,7 @@ abbrev pub part : ℕ → ℕ → List ℕ → List ℕ
 part at size l = take size (drop at l)
 
 pub record Lined (n sent size count : ℕ) (words out : List ℕ) : Type 0 where
-  pub some : sent ≤ n
+  pub at-most : sent ≤ n
   pub size-is : size ≡ bytesFor sent
   pub words-long : length words ≡ count * size
   pub out-long : length out ≡ count * size

@@ -13,7 +13,7 @@
 //    Else the answer is 13.
 // A word of a shortened code is one with 0 in the places that are not sent. Where a codeword of it is within t places, it is the only codeword
 // that is; so what 1 to 5 find is it, or reaches into those places (`reaches` of repair.rt), and then the answer is 13. A shorter word has fewer
-// columns, and nothing is copied.
+// columns, and no buffer but the output is filled.
 // Cost: some R·n/4 + L·t·u + n·t·u table reads for n places, R representatives and f of degree u. No pattern of errors is tried.
 ghost use Prim.Native.Nat.{_<_, _≤_};
 ghost use Rattle.document.specs.Answer.{repliedAs};
@@ -50,9 +50,9 @@ pub fn decode_accepted(
     if spare_word(sent, word) {
         return Reply::Refused(Refusal::SpareBit);
     }
-    let m = decode_word(n, sent, s, t, c, representatives, word, out);
-    if m == 65535 {
+    let count = decode_word(n, sent, s, t, c, representatives, word, out);
+    if count == 65535 {
         return Reply::Refused(Refusal::NoneNear);
     }
-    Reply::Done(m)
+    Reply::Done(count)
 }

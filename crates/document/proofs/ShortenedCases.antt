@@ -10,7 +10,7 @@ use Prim.Native.Nat.{ℕ, _-_}
 use Rattle.document.specs.Answer.{Answer, Conditions, firstOf, settle}
 use Rattle.document.specs.Layout.{wordWeight, messageWeight, maskOf, bytesOf}
 use Rattle.document.specs.Judge.{dimensionOf}
-use Rattle.document.specs.Shortened.{shorteningConditions, isShortened, encodeShortenedConditions, encodedShortened, encodeShortenedEntry}
+use Rattle.document.specs.Shortened.{shorteningConditions, topZero, encodeShortenedConditions, encodedShortened, encodeShortenedEntry}
 use Rattle.document.specs.Shortened.{readShortenedConditions, readShortenedEntry, shortenedMessage, decodedShortened, decodeShortenedConditions}
 use Rattle.document.specs.Shortened.{decodeShortenedEntry}
 use Rattle.document.specs.Short.{stated, refusalsOf, encodeShortenedOf, readShortenedOf, decodeShortenedOf}
@@ -125,7 +125,7 @@ expected =
     ∷ []
 
 computed : rows (shortenedBy testedOf) ≡ expected
-unfolding rows expected encoded readOut decoded number sheetH sheetE oneCertificate sheetOf definitions isShortened encodeShortenedConditions encodedShortened
+unfolding rows expected encoded readOut decoded number sheetH sheetE oneCertificate sheetOf definitions topZero encodeShortenedConditions encodedShortened
     encodeShortenedEntry readShortenedConditions readShortenedEntry shortenedMessage decodedShortened decodeShortenedConditions decodeShortenedEntry
 computed = refl
 

@@ -3,7 +3,7 @@
 --   wrongShortening, shorteningConditions      16
 --   sentPlaces m x, sentBits m x      how many places a word has, and a message
 --   sentWordOf, sentMessageOf         a word and a message in bytes, as masks of n and of k places
---   isShortened, ShortenedCodeword    codewords whose top m places are 0
+--   topZero, ShortenedCodeword        that the top m places are 0, and codewords of which that is so
 --   encodedShortened                  the codeword of a message
 --   shortenedMessage, decodedShortened      the shortened codeword within t places of a word, by its message
 --   encodeShortenedConditions, readShortenedConditions, decodeShortenedConditions      11 to 14, after the sheet's own and 16
@@ -44,8 +44,8 @@ abbrev pub sentMessageOf : ℕ → Stated → List ℕ → ℕ
 sentMessageOf m x message = maskOf messageWeight (sentBits m x) message
 
 -- a shortened codeword is a codeword whose top m places are 0: it has no coefficient of x^(n-m) or above
-unfoldable pub isShortened : ℕ → Stated → ℕ → Bool
-isShortened m x c = ltb c (2 ^ sentPlaces m x)
+unfoldable pub topZero : ℕ → Stated → ℕ → Bool
+topZero m x c = ltb c (2 ^ sentPlaces m x)
 
 pub record ShortenedCodeword (m : ℕ) (x : Stated) (c : ℕ) : Type 0 where
   pub is-codeword : CodewordOf x c
@@ -87,7 +87,7 @@ unfoldable pub shortenedMessage : ℕ → Stated → List ℕ → ℕ
 shortenedMessage m x word =
     least
     (λ message. let c : ℕ = encodeMask (x .n - dimensionOf x) (generatorOf x) message in
-    isShortened m x c && leb (differences (x .n) (sentWordOf m x word) c) (radiusOf x)) (2 ^ dimensionOf x)
+    topZero m x c && leb (differences (x .n) (sentWordOf m x word) c) (radiusOf x)) (2 ^ dimensionOf x)
 
 unfoldable pub decodedShortened : ℕ → Stated → List ℕ → ℕ
 decodedShortened m x word = encodeMask (x .n - dimensionOf x) (generatorOf x) (shortenedMessage m x word)

@@ -24,7 +24,7 @@ returns-3 : tie.Need-returns-3
 returns-3 c = decode-spare _ _ (c .before .before .before .before .if1 .left ∙ c .before .before .before .before .before .bytes-for .ensures) (c .before .before .if2 .left ∙ c .before .before .before .bytes-for2 .ensures) (sym (c .before .spare-word .ensures) ∙ c .if3 .taken)
 
 decode-word-requires : tie.Need-decode-word-requires
-decode-word-requires c κs = let p = c .before .before .before .before .before .before .before .before .before .before .pre in (p .0, record { some = p .4; word-long = (c .before .before .before .before .before .if1 .left ∙ c .before .before .before .before .before .before .bytes-for .ensures); out-long = (c .before .before .before .if2 .left ∙ c .before .before .before .before .bytes-for2 .ensures); clear = sym (c .before .before .spare-word .ensures) ∙ c .before .if3 .left }, p .1, p .2)
+decode-word-requires c κs = let p = c .before .before .before .before .before .before .before .before .before .before .pre in (p .0, record { at-most = p .4; word-long = (c .before .before .before .before .before .if1 .left ∙ c .before .before .before .before .before .before .bytes-for .ensures); out-long = (c .before .before .before .if2 .left ∙ c .before .before .before .before .bytes-for2 .ensures); clear = sym (c .before .before .spare-word .ensures) ∙ c .before .if3 .left }, p .1, p .2)
 
 same-length : tie.Need-same-length
 same-length c = c .before .before .before .decode-word .kept .1 .1 .1 .1 .1 .1 .1 .0

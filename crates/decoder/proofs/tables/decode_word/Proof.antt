@@ -11,7 +11,7 @@ slice-aggregate-with-smallest-tables c = search needs
 
 with-smallest-tables-requires : tie.Need-with-smallest-tables-requires
 with-smallest-tables-requires c κs = let p = c .before .before .before .before .before .before .before .pre in let r = p .1 in
-    (p .0, line-one 1 refl (r .some) (r .word-long) (r .word-long) (r .out-long) (r .clear), λ e. leb-false 64 (c .before .before .before .before .before .before .before .args .c .terms) e, c .before .before .if1 .taken, p .2, p .3)
+    (p .0, line-one 1 refl (r .at-most) (r .word-long) (r .word-long) (r .out-long) (r .clear), λ e. leb-false 64 (c .before .before .before .before .before .before .before .args .c .terms) e, c .before .before .if1 .taken, p .2, p .3)
 
 array-read-result : tie.Need-array-read-result
 array-read-result c = search needs
@@ -27,7 +27,7 @@ slice-aggregate-with-small-tables c = search needs
 
 with-small-tables-requires : tie.Need-with-small-tables-requires
 with-small-tables-requires c κs = let p = c .before .before .before .before .before .before .before .before .pre in let r = p .1 in
-    (p .0, line-one 1 refl (r .some) (r .word-long) (r .word-long) (r .out-long) (r .clear), λ e. leb-false 64 (c .before .before .before .before .before .before .before .before .args .c .terms) e, c .before .before .if2 .taken, p .2, p .3)
+    (p .0, line-one 1 refl (r .at-most) (r .word-long) (r .word-long) (r .out-long) (r .clear), λ e. leb-false 64 (c .before .before .before .before .before .before .before .before .args .c .terms) e, c .before .before .if2 .taken, p .2, p .3)
 
 array-read-result-2 : tie.Need-array-read-result-2
 array-read-result-2 c = search needs
@@ -43,7 +43,7 @@ slice-aggregate-with-large-tables c = search needs
 
 with-large-tables-requires : tie.Need-with-large-tables-requires
 with-large-tables-requires c κs = let p = c .before .before .before .before .before .before .before .before .pre in let r = p .1 in
-    (p .0, line-one 1 refl (r .some) (r .word-long) (r .word-long) (r .out-long) (r .clear), λ e. leb-false 64 (c .before .before .before .before .before .before .before .before .args .c .terms) e, p .2, p .3)
+    (p .0, line-one 1 refl (r .at-most) (r .word-long) (r .word-long) (r .out-long) (r .clear), λ e. leb-false 64 (c .before .before .before .before .before .before .before .before .args .c .terms) e, p .2, p .3)
 
 array-read-result-3 : tie.Need-array-read-result-3
 array-read-result-3 c = search needs

@@ -22,14 +22,15 @@
  * of `out`. Nothing is kept between calls: no heap, no global state. Calls from several threads need no lock, as long as no other
  * thread writes to a buffer that a call uses.
  *     Each buffer goes with its length in bytes, and nothing outside is read or written. A length must be exact, but for
- * dunefork_shown_length: an input, `out`, `zeros` or `ones` that is too long is refused like one that is too short. A pointer may be any
- * address, also a null one, where its length is 0.
+ * dunefork_shown_length: an input, `out`, `zeros`, `ones` or `verdicts` that is too long is refused like one that is too short. A pointer
+ * may be any address, also a null one, where its length is 0.
  *     `out` must not overlap the sheet or the input, so a word cannot be decoded in place. Nor may `zeros` and `ones`, the buffers that
- * dunefork_decode_marked writes, overlap each other, the sheet, the word or the marks. If one does, even by one byte, nothing that
- * is said here holds of the call: it may return any number, and read and write outside the buffers. No call checks for that. The
- * sheet and the inputs are only read, and may overlap.
+ * dunefork_decode_marked writes, overlap each other, the sheet, the word or the marks; nor `out` and `verdicts` of dunefork_decode_block
+ * each other, the sheet or the block. If one does, even by one byte, nothing that is said here holds of the call: it may return any
+ * number, and read and write outside the buffers. No call checks for that. The sheet and the inputs are only read, and may overlap.
  *     A return of 0 or more says that it is done. A negative one is a refusal, minus the number that document 01 or 02 gives it, and
- * then `out`, or `zeros` and `ones`, are as they were, every byte of them.
+ * then `out`, `zeros` and `ones`, or `out` and `verdicts`, are as they were, every byte of them. Of a block dunefork_decode_block returns
+ * 0 also where some or all of its words are near no codeword: the verdicts tell of each.
  *
  * Words and messages. A word of n places takes DUNEFORK_BYTES(n) bytes and a message of k places DUNEFORK_BYTES(k). They lie in
  * their bytes in opposite ways:
@@ -66,6 +67,24 @@
  *     int32_t changed = dunefork_decode_short(sheet, sizeof sheet, 3, word, sizeof word, right, sizeof right);  // returns 0, 1 or 2
  *     if (changed >= 0) dunefork_read_short(sheet, sizeof sheet, 3, right, sizeof right, message, sizeof message);  // returns 0
  *
+ * Interleaved blocks. Where a soft starter wipes out a run of bits, m words of one sheet, 2 to 16, are sent together, one place of each in
+ * turn: bit j m + i of the block is place j of word i. Bit p of a block is block[p / 8] >> (7 - p % 8) & 1, and the spare bits, from n m
+ * on, are the low ones of the last byte. A run of neighbouring bits is then shared out among the words: where at most m t of them are
+ * spoiled, each word has at most t wrong places. There is no call that encodes a block: encode its words one by one and put each into the
+ * block, which is 0 at first. dunefork_decode_block takes m after the sheet, and corrects all words at once (examples/c/block.c has it in
+ * full). With m = 8 on the sheet above, a run of up to 16 bits:
+ *
+ *     uint8_t message[8][DUNEFORK_BYTES(7)] = {{0x44}, {0x75}}, word[DUNEFORK_BYTES(15)];
+ *     uint8_t block[DUNEFORK_BYTES(15 * 8)] = {0}, out[8 * DUNEFORK_BYTES(15)], verdicts[8];
+ *
+ *     for (size_t i = 0; i < 8; i++) {
+ *         dunefork_encode(sheet, sizeof sheet, message[i], sizeof message[i], word, sizeof word);  // returns 0
+ *         dunefork_block_put(15, 8, i, word, block);  // sets bit j * 8 + i to place j of word, for each j below 15
+ *     }
+ *     // .. the wire, which spoils up to 16 neighbouring bits of block ..
+ *     dunefork_decode_block(sheet, sizeof sheet, 8, block, sizeof block, out, sizeof out, verdicts, sizeof verdicts);  // returns 0
+ *     // word i is out[2 i] and out[2 i + 1], and had verdicts[i] wrong places; or verdicts[i] is 255, no codeword near
+ *
  * The sheet. 16-bit numbers have their low byte first. The folder sheets/ has some; docs/SHEETS.md says how to write one.
  *     bytes 0-1  length of the whole sheet, 10 + R + 8 C
  *     byte  2    n, odd, 3 to 127
@@ -81,8 +100,8 @@
  *
  * What is proved. For every sheet, input and buffer of any length, those that are written apart from all others, the code behind
  * these functions replies and writes exactly what its definitions say (crates/document/specs, and crates/dunefork/specs for the number
- * returned). The compiler's back end, the calling convention and this header with its dunefork_shown are not proved, nor are time, stack
- * and secrecy.
+ * returned). The compiler's back end, the calling convention and this header with its dunefork_shown and dunefork_block_put are not proved,
+ * nor are time, stack and secrecy.
  */
 #ifndef DUNEFORK_H
 #define DUNEFORK_H
@@ -102,7 +121,8 @@ extern "C" {
 
 /* Bytes of stack that a call takes, at most and for any input, its return address included; what memset and memmove of your C
  * library take for themselves is not counted. Those of encode, read and decode hold for dunefork_encode_short, dunefork_read_short and
- * dunefork_decode_short too. tools/stack measures the archive and writes these lines: docs/STACK.md. */
+ * dunefork_decode_short too. tools/stack measures the archive and writes these lines: docs/STACK.md.
+ * STACK-TODO: dunefork_decode_block, which macros hold for it or its own. */
 #define DUNEFORK_ENCODE_STACK 1652
 #define DUNEFORK_READ_STACK 1652
 #define DUNEFORK_DECODE_STACK 80096
@@ -116,9 +136,9 @@ extern "C" {
 #define DUNEFORK_SHOWN_LENGTH_STACK 8
 #define DUNEFORK_CARD_STACK 1820
 
-/* What a call returns where it refuses. The conditions are tried in this order, SHORTENING between TERM and BUFFER_LENGTH; those of
- * certificates (RANGE to TERM) for one certificate after the other. examples/c/refusals.c draws each of them, docs/SHEETS.md says what
- * to do about it. */
+/* What a call returns where it refuses. The conditions are tried in this order, SHORTENING and INTERLEAVING_DEPTH between TERM and
+ * BUFFER_LENGTH; those of certificates (RANGE to TERM) for one certificate after the other. examples/c/refusals.c draws each of them,
+ * docs/SHEETS.md says what to do about it. */
 #define DUNEFORK_SHEET_LENGTH (-1)    /* the sheet is under 10 or over 74 bytes, or states another length */
 #define DUNEFORK_CODE_LENGTH (-2)     /* n is even, below 3 or above 127 */
 #define DUNEFORK_FIELD_DEGREE (-3)    /* n divides no 2^s - 1 with s up to 12 */
@@ -132,14 +152,15 @@ extern "C" {
 #define DUNEFORK_PERIOD (-9)          /* two of f(x), f(a x), .. f(a^(n-1) x), for the mask f of a certificate and the code's root a, have a
                                          common factor; where the period of f is coprime to n none have */
 #define DUNEFORK_TERM (-10)           /* a certificate has a term j below L that is 1 while b + j z modulo n is outside the defining set */
-#define DUNEFORK_BUFFER_LENGTH (-11)  /* an input, `out`, `zeros` or `ones` has not its exact length */
-#define DUNEFORK_SPARE_BIT (-12)      /* a spare bit of an input is 1: a low one in the last byte of a word or of marks, a high one in
-                                         a message's */
+#define DUNEFORK_BUFFER_LENGTH (-11)  /* an input, `out`, `zeros`, `ones` or `verdicts` has not its exact length */
+#define DUNEFORK_SPARE_BIT (-12)      /* a spare bit of an input is 1: a low one in the last byte of a word, of marks or of a block, a
+                                         high one in a message's */
 #define DUNEFORK_NONE_NEAR (-13)      /* decoding: no codeword, of a shortened code no shortened one, within t places of the word */
 #define DUNEFORK_NO_CODEWORD (-14)    /* reading out: the word is no codeword */
 #define DUNEFORK_NONE_WITH_MARKS (-15) /* decoding a marked word: no codeword differs from it in e unmarked places with 2 e + r at most
                                          d - 1, where r places are marked */
 #define DUNEFORK_SHORTENING (-16)     /* a shortened code: m is 0, or not below k */
+#define DUNEFORK_INTERLEAVING_DEPTH (-17) /* a block: m is not 2 to 16 */
 
 /* Encodes a message of exactly DUNEFORK_BYTES(k) bytes into the codeword in out, exactly DUNEFORK_BYTES(n) bytes:
  * message place i stands in place n - k + i, the places below hold the checks. Returns 0, or a refusal: -1 to -12. */
@@ -208,6 +229,32 @@ int32_t dunefork_read_short(const uint8_t *sheet, size_t sheet_len, size_t m, co
  * is within t places. Returns 0 to t, or a refusal: -1 to -13 or -16. */
 int32_t dunefork_decode_short(const uint8_t *sheet, size_t sheet_len, size_t m, const uint8_t *word, size_t word_len, uint8_t *out,
                               size_t out_len);
+
+/* Corrects the m words of a block of exactly DUNEFORK_BYTES(n * m) bytes: bit j m + i of the block is place j of word i, for i below m and
+ * j below n, and bit p is block[p / 8] >> (7 - p % 8) & 1. m may be any number; it is refused with DUNEFORK_INTERLEAVING_DEPTH, after the
+ * sheet and before anything else is looked at, where it is not 2 to 16.
+ *     out has exactly m * DUNEFORK_BYTES(n) bytes, DUNEFORK_BYTES(n) for each word, one after the other in a word's layout; verdicts has
+ * exactly m bytes. Where a codeword is within t places of word i, with t as for dunefork_decode, it goes into the word's bytes of out, and
+ * verdicts[i] is the number of places in which the two differ, 0 to t. There is never more than one. Where there is none, verdicts[i] is
+ * 255 and the word's bytes of out are as they were; the other words are corrected all the same.
+ *     So a block of codewords of which at most m t neighbouring bits are spoiled, none of them spare, always comes back whole: every word
+ * is the one sent, and its verdict the number of its wrong places. What dunefork_decode's comment says of more than t wrong places holds of
+ * each word.
+ *     Refused with DUNEFORK_BUFFER_LENGTH are a block, an out and verdicts of another length, with DUNEFORK_SPARE_BIT a block that has a 1
+ * from bit n m on. Returns 0, or a refusal: -1 to -12 or -17, and then out and verdicts are both as they were. */
+int32_t dunefork_decode_block(const uint8_t *sheet, size_t sheet_len, size_t m, const uint8_t *block, size_t block_len, uint8_t *out,
+                              size_t out_len, uint8_t *verdicts, size_t verdicts_len);
+
+/* Puts a word of n places, DUNEFORK_BYTES(n) bytes, into a block of m words, DUNEFORK_BYTES(n * m) bytes, as its word i, i below m: bit
+ * j m + i becomes place j of the word, for each j below n. All other bits, the spare ones too, are as they were, so a block is 0 at first.
+ * It is plain C and no part of what is proved; nothing is checked. */
+static inline void dunefork_block_put(size_t n, size_t m, size_t i, const uint8_t *word, uint8_t *block) {
+    for (size_t j = 0; j < n; j++) {
+        size_t p = j * m + i;
+        unsigned place = word[j / 8] >> (7 - j % 8) & 1u, others = block[p / 8] & ~(0x80u >> p % 8);
+        block[p / 8] = (uint8_t)(others | place << (7 - p % 8));
+    }
+}
 
 /* Tells what a sheet amounts to: its listing, the program linkcard's text, into out, exactly DUNEFORK_CARD_BYTES bytes. The lines
  * are "code N K S", S being the field's degree, "zeros ..", "generator ..", for each certificate C "cert C terms L distance D", and

@@ -1,6 +1,6 @@
-# Calls at and on either side of every boundary that document 01 and requests 2026-05 and 2026-06 of document 02 have, and with two
+# Calls at and on either side of every boundary that document 01 and requests 2026-05 to 2026-07 of document 02 have, and with two
 # refusals true at once, and what they are to answer by tools/second_reading.py. tools/answers.py puts them together with the other calls,
-# and boundary_shortened.py has those of 2026-06.
+# boundary_shortened.py has those of 2026-06 and boundary_block.py those of 2026-07.
 #
 # A definition that is wrong at a boundary, with code that fits it, passes every proof; these calls stand against it. A sheet is as
 # right as it can be but for what it is here for, so that only the condition in question tells. Two things no sheet can be: one of 74
@@ -11,6 +11,7 @@ from functools import lru_cache
 
 sys.dont_write_bytecode = True
 import second_reading as reading
+from boundary_block import block_questions, refused_block
 from boundary_shortened import refused_sheet, short_questions
 from entry_answers import certificate, changed, sheet
 
@@ -265,7 +266,7 @@ def sheet_calls():
                     yield made, kind, given, space
                 if group == pairs:
                     yield made, 6, marked_given(given, given[1:], b, space), 0
-                    for call in refused_sheet(given, space, i):
+                    for call in [*refused_sheet(given, space, i), *refused_block(given, space, i)]:
                         yield made, *call
     for made in lengths_of_words():
         yield made, 0, b'', 0
@@ -395,6 +396,7 @@ def questions():
             yield made, *call
     yield from shown_calls()
     yield from short_questions()
+    yield from block_questions()
     yield from card_calls()
 
 

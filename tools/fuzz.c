@@ -1,9 +1,10 @@
-/* Random calls of all entries of the library, each held to the reference of fuzz_reference.h, fuzz_listing.h, fuzz_marked.h and
- * fuzz_shortened.h: the reply, every byte of the buffers, and that no byte beside the lent ones has changed. tools/fuzz builds and runs it.
+/* Random calls of all entries of the library, each held to the reference of fuzz_reference.h, fuzz_listing.h, fuzz_marked.h,
+ * fuzz_shortened.h and fuzz_block.h: the reply, every byte of the buffers, and that no byte beside the lent ones has changed. tools/fuzz
+ * builds and runs it.
  *
  *     fuzz seed calls [fault]
  *
- * A seed gives the same calls everywhere, and the checksum printed is that of all replies and buffers. With a fault, 1 to 39, a
+ * A seed gives the same calls everywhere, and the checksum printed is that of all replies and buffers. With a fault, 1 to 60, a
  * wrong library is played, and the run must end in a difference: that shows that the harness sees such a thing.
  *
  * Every buffer has its exact length. Three in four lie at the end or the start of a page between two pages that cannot be touched,
@@ -19,11 +20,11 @@
 #include <time.h>
 #include <unistd.h>
 
-enum { PAGE = 4096, SHEET = 0, INPUT = 1, OUTPUT = 2, ZEROS = OUTPUT, ONES = 3, MARKS = 4, BUFFERS = 5 };
-enum { ENCODE, READ, DECODE, CARD, MARKED, ENCODE_SHORT, READ_SHORT, DECODE_SHORT, SHOWN, ENTRIES };
-static const char *const entry_name[ENTRIES] = {"encode",       "read",       "decode",       "card",        "decode_marked",
-                                                "encode_short", "read_short", "decode_short", "shown_length"};
-enum { LAST_REFUSAL = 16 };
+enum { PAGE = 4096, SHEET = 0, INPUT = 1, OUTPUT = 2, ZEROS = OUTPUT, ONES = 3, VERDICTS = ONES, MARKS = 4, BUFFERS = 5 };
+enum { ENCODE, READ, DECODE, CARD, MARKED, ENCODE_SHORT, READ_SHORT, DECODE_SHORT, BLOCK, SHOWN, ENTRIES };
+static const char *const entry_name[ENTRIES] = {"encode",       "read",       "decode",       "card",         "decode_marked",
+                                                "encode_short", "read_short", "decode_short", "decode_block", "shown_length"};
+enum { LAST_REFUSAL = 17 };
 
 /* ---- the draw. No expression draws twice in an order that C leaves open: a seed gives the same calls with every compiler. */
 static uint64_t state;
@@ -144,9 +145,10 @@ static void differ(const char *what) {
     show(stderr, "sheet", sheet, sheet_length);
     show(stderr, "input", now.input, now.input_length);
     if (now.entry == MARKED) show(stderr, "marks", now.marks, now.marks_length);
-    if (now.entry >= ENCODE_SHORT && now.entry <= DECODE_SHORT) fprintf(stderr, "m %zu\n", now.m);
+    if (now.entry >= ENCODE_SHORT && now.entry <= BLOCK) fprintf(stderr, "m %zu\n", now.m);
     fprintf(stderr, "output of %zu bytes", now.output_length);
     if (now.entry == MARKED) fprintf(stderr, ", and of %zu for the ones", now.second_length);
+    if (now.entry == BLOCK) fprintf(stderr, ", and of %zu for the verdicts", now.second_length);
     fprintf(stderr, "\n");
     exit(1);
 }
@@ -222,7 +224,7 @@ static int32_t meddled(int32_t reply) {
     return reply;
 }
 
-static int32_t meddled_marked(int32_t reply), meddled_short(int32_t reply);
+static int32_t meddled_marked(int32_t reply), meddled_short(int32_t reply), meddled_block(int32_t reply);
 
 static int32_t called(void) {
     const struct lent *s = &lent[SHEET], *i = &lent[INPUT], *o = &lent[OUTPUT], *m = &lent[MARKS], *second = &lent[ONES];
@@ -242,11 +244,14 @@ static int32_t called(void) {
         reply = dunefork_read_short(s->at, s->length, now.m, i->at, i->length, o->at, o->length);
     else if (now.entry == DECODE_SHORT)
         reply = dunefork_decode_short(s->at, s->length, now.m, i->at, i->length, o->at, o->length);
+    else if (now.entry == BLOCK)
+        reply = dunefork_decode_block(s->at, s->length, now.m, i->at, i->length, o->at, o->length, second->at, second->length);
     else
         reply = dunefork_decode_marked(s->at, s->length, i->at, i->length, m->at, m->length, o->at, o->length, second->at, second->length);
     library_seconds += seconds() - start;
     if (fault && now.entry == MARKED) reply = meddled_marked(reply);
-    if (fault && now.entry >= ENCODE_SHORT) reply = meddled_short(reply);
+    if (fault && now.entry >= ENCODE_SHORT && now.entry <= DECODE_SHORT) reply = meddled_short(reply);
+    if (fault && now.entry == BLOCK) reply = meddled_block(reply);
     return fault ? meddled(reply) : reply;
 }
 
@@ -423,14 +428,13 @@ static int drawn_length(void) {
     return below(3) ? lengths[below(length_count)] : likely[below(12)];
 }
 
-static void known_sheet(void) {
+static void known_sheet(int which) {
     static const struct {
         int n, r[3];
         struct certificate c;
     } known[] = {{7, {1, -1}, {1, 1, 3, 1, 0, 2}},          {7, {0, 1, -1}, {0, 1, 3, 1, 0, 3}}, {17, {1, -1}, {13, 1, 7, 3, 0, 9}},
                  {15, {1, 3, -1}, {1, 1, 3, 1, 0, 4}},      {23, {1, -1}, {1, 1, 3, 1, 0, 4}},   {65, {1, -1}, {61, 1, 7, 3, 0, 9}},
                  {3, {-1}, {0, 1, 11, 2, 0, 1}},            {127, {-1}, {0, 1, 7, 2, 0, 1}}};
-    int which = below(8);
     uint8_t zero[PLACES] = {0};
     for (int i = 0; known[which].r[i] >= 0; i++) add_coset(known[which].n, zero, known[which].r[i]);
     put_sheet(known[which].n, zero, &known[which].c, 1);
@@ -446,7 +450,7 @@ static int terms_of_one_distance(const struct certificate *other, const struct c
 /* A sheet that is accepted: D drawn, or what a drawn certificate asks for, and certificates as long as D allows, or shorter. */
 static void good_sheet(void) {
     if (below(12) == 0) {
-        known_sheet();
+        known_sheet(below(8));
         return;
     }
     for (;;) {
@@ -625,13 +629,16 @@ static int drawn_weight(void) {
     return w < 0 ? 0 : w > n ? n : w;
 }
 
+#include "fuzz_block.h"
+
 static void try_accepted(int count) {
     int n = code.n, k = code.k;
     for (int weight = 0; weight <= code.t + 2 && weight <= n && count > 30; weight++) try_decoding(weight);
     if (count > 30) try_bounds();
     if (count > 30) try_short_bounds();
+    if (count > 30) try_block_bounds();
     for (; count > 0; count--) {
-        int kind = below(13);
+        int kind = below(14);
         word_t all = (((word_t)1 << (k - 1)) - 1) * 2 + 1, message = below(8) ? draw_places(k) : 0;
         if (message == 0 && below(3)) message = below(2) ? all : (word_t)1 << below(k);
         word_t drawn = draw_places(n);
@@ -641,6 +648,8 @@ static void try_accepted(int count) {
             word_t word = encoded(&code, message);
             int change = below(5);
             try_places(READ, change < 2 ? word : change < 4 ? word ^ draw_pattern(n, 1 + below(change == 2 ? 2 : n)) : drawn, 0, -1);
+        } else if (kind > 12) {
+            try_drawn_block();
         } else if (kind > 9) {
             try_drawn_short();
         } else if (kind > 7) {
@@ -660,7 +669,11 @@ static void try_refused(int count) {
     for (; count > 0; count--) {
         size_t length = below(2) ? places : wrong_length(places), output_length = below(2) ? places : wrong_length(places);
         for (size_t i = 0; i < length; i++) input[i] = (uint8_t)(below(2) ? draw() : 0);
-        int which = below(7);
+        int which = below(8);
+        if (which == 7) {
+            try_refused_block();
+            continue;
+        }
         if (which < 3) {
             try(which, input, length, output_length, 0, -1);
             continue;
@@ -675,9 +688,13 @@ static void try_refused(int count) {
     }
 }
 
-static void try_sheet(int good, int bad) {
+static void judge_sheet(void) {
     judge(sheet, sheet_length, &code);
     prepared = 0, distance_known = 0, costly = 2;
+}
+
+static void try_sheet(int good, int bad) {
+    judge_sheet();
     try_card(below(16) ? DUNEFORK_CARD_BYTES : wrong_length(DUNEFORK_CARD_BYTES));
     try_shown();
     if (code.refusal) {
@@ -716,10 +733,11 @@ static void report(uint64_t seed, double whole) {
         for (int e = 0; e < ENTRIES; e++) printf(" %13llu", (unsigned long long)(r ? count_refused[e][r] : count_done[e]));
     }
     tell_counts("\ndecoded, by changed places:", count_changed);
-    printf("words and trial words that were decoded or refused with 13:\n");
+    printf("words, trial words and words of blocks that were decoded or are near no codeword:\n");
     for (int i = 0; i < HOW; i++) printf("  %10llu %s\n", (unsigned long long)count_how[i], how_name[i]);
     report_marked();
     report_short();
+    report_block();
     printf("checksum %016llx\n", (unsigned long long)checksum);
     for (int e = 0; e < SHOWN; e++)
         for (int r = e == CARD ? 11 : 1; r <= (e == CARD ? 11 : 12); r++)
@@ -730,6 +748,11 @@ static void report(uint64_t seed, double whole) {
     for (int e = ENCODE_SHORT; e <= DECODE_SHORT; e++)
         if (calls >= 100000 && (!count_refused[e][16] || !count_only_whole)) {
             printf("refusal 16 never came from %s, or 13 never where another codeword was near\n", entry_name[e]);
+            exit(1);
+        }
+    for (int m = DEPTH_LEAST; m <= DEPTH_MOST; m++)
+        if (calls >= 100000 && (!count_depth[m] || !count_refused[BLOCK][17] || !count_verdict[255] || !count_every_burst)) {
+            printf("no block of %d words was decoded, or 17 never came, or no word was near no codeword, or no run of bits was tried\n", m);
             exit(1);
         }
     for (int by = 0; by < 3; by++)
@@ -779,6 +802,12 @@ int main(int argc, char **argv) {
             drawn_bytes();
             try_sheet(12, 6);
         }
+    }
+    /* sheets H and bch-15-7 */
+    for (int which = 0; which <= 3 && calls >= 100000; which += 3) {
+        known_sheet(which);
+        judge_sheet();
+        try_every_burst();
     }
     report(seed, seconds() - start);
     return 0;

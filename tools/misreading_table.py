@@ -1,6 +1,6 @@
 # Misreadings of document 01 and of requests 2026-01 and 2026-03 to 2026-05 of document 02, for tools/misreadings: each is a name and what
 # is replaced in tools/second_reading.py, a line or a part of one, by what. What is replaced must stand there exactly once.
-# misreading_shortened.py has those of 2026-06.
+# misreading_shortened.py has those of 2026-06, misreading_block.py those of 2026-07.
 MISREADINGS = []
 
 

@@ -1,8 +1,8 @@
-# A second reading of document 01, with requests 2026-01 and 2026-03 to 2026-06 of document 02, made from their text alone: judge, card,
-# encode, read, decode, decode_marked, shown, encode_short, read_short and decode_short as searches and sums (rule 3 by Euclid's
-# algorithm, in field_factors.py; `period` is for misreadings alone), with none of the product's code and none of entry_answers.py's.
-# Polynomials over two elements are masks, as in the document. What the document leaves open (card's buffer of 1,024 bytes and its 11, the
-# last newline, the 0 that encode and read return) is as docs/PROMISES.md says.
+# A second reading of document 01, with requests 2026-01 and 2026-03 to 2026-07 of document 02, made from their text alone: judge, card,
+# encode, read, decode, decode_marked, shown, encode_short, read_short, decode_short and decode_block as searches and sums (rule 3 by
+# Euclid's algorithm, in field_factors.py; `period` is for misreadings alone), with none of the product's code and none of
+# entry_answers.py's. Polynomials over two elements are masks, as in the document. What the document leaves open (card's buffer of 1,024
+# bytes and its 11, the last newline, the 0 that encode, read and decode_block return) is as docs/PROMISES.md says.
 #
 # tools/boundary_answers.py answers its calls by it. tools/misreadings replaces single lines of it, each by a wrong reading: that is
 # why every condition stands in a line of its own, and why what comes first is told by tables.
@@ -667,6 +667,100 @@ def carded(sheet, out):
     return 'returned', len(text), text + out[len(text):]
 
 
+# ---- blocks (document 02, request 2026-07): `block` and the lent `out` and `verdicts` are bytes. No other entry goes by what stands here
+def block_bits(sheet, m):
+    # "A block carries m words"
+    return byte(sheet, 2) * m
+
+
+def bit_for(sheet, m, j, i):
+    # "bit j·m + i of the block is place j of word i"
+    return j * m + i
+
+
+def block_weight(p):
+    # "packed high bit first"
+    return 128 >> p % 8
+
+
+def bits_in(sheet, m, block):
+    return mask_in(block, block_weight)
+
+
+def word_in_block(sheet, m, bits, i):
+    return sum((bits >> bit_for(sheet, m, j, i) & 1) << j for j in range(byte(sheet, 2)))
+
+
+def block_sheet(sheet, m, block, out, verdicts):
+    return judged(sheet)
+
+
+def depth_wrong(sheet, m, block, out, verdicts):
+    # "refusal 17 .. is an m outside 2 to 16"
+    if m < 2:
+        return 17
+    return 17 if m > 16 else 0
+
+
+def block_length(sheet, m, block, out, verdicts):
+    return 11 if len(block) != in_bytes(block_bits(sheet, m)) else 0
+
+
+def block_output(sheet, m, block, out, verdicts):
+    # "The output is m words long"
+    asked = m * in_bytes(byte(sheet, 2))
+    return 11 if len(out) != asked else 0
+
+
+def block_verdicts(sheet, m, block, out, verdicts):
+    # "and the verdicts m bytes"
+    asked = m
+    return 11 if len(verdicts) != asked else 0
+
+
+def block_spare(sheet, m, block, out, verdicts):
+    return 12 if bits_in(sheet, m, block) >> block_bits(sheet, m) else 0
+
+
+BLOCK_ORDER = (block_sheet, depth_wrong, block_length, block_output, block_verdicts, block_spare)
+
+
+def put_word(sheet, m, out, i, right):
+    # "one after the other in word layout. Each corrected word goes into its own bytes"
+    size = in_bytes(byte(sheet, 2))
+    out[i * size:i * size + size] = word_bytes(right, byte(sheet, 2))
+
+
+def verdict(sheet, word, right):
+    # "its changed places, or 255 for none near"
+    if right is None:
+        return 255
+    return (right ^ word).bit_count()
+
+
+def block_called(sheet, m, block, out, verdicts):
+    # how the call ends, with its number, and both buffers afterwards
+    for refusal in BLOCK_ORDER:
+        number = refusal(sheet, m, block, out, verdicts)
+        if number:
+            return 'refused %d' % number, out, verdicts
+    bits, written, given = bits_in(sheet, m, block), bytearray(out), bytearray(verdicts)
+    for i in range(m):
+        word = word_in_block(sheet, m, bits, i)
+        right = nearest(sheet, word)
+        # "a word with no codeword within t leaves its bytes as they were"
+        if right is not None:
+            put_word(sheet, m, written, i, right)
+        given[i] = verdict(sheet, word, right)
+    return 'returned 0', bytes(written), bytes(given)
+
+
+def block_told(sheet, given):
+    m, space = int.from_bytes(given[:8], 'little'), int.from_bytes(given[8:10], 'little')
+    end, out, verdicts = block_called(sheet, m, given[11:], b'\xaa' * space, b'\x55' * given[10])
+    return 'decode_block %s %s %s' % (end, out.hex(), verdicts.hex())
+
+
 # ---- what the program crates/vectors writes for a call, without the last newline
 def told(sheet, kind, given, space):
     sheet = bytes(sheet)
@@ -684,6 +778,8 @@ def told(sheet, kind, given, space):
     if kind == 7:
         trial, n = int.from_bytes(given[:8], 'little'), int.from_bytes(given[8:16], 'little')
         return 'shown ' + shown(trial, n, bytes(range(given[16])), bytes(range(128, 128 + given[17]))).hex()
+    if kind == 11:
+        return block_told(sheet, given)
     if kind > 7:
         end, lent = short_called(kind, sheet, int.from_bytes(given[:8], 'little'), given[8:], b'\xaa' * space)
         return '%s %s %s' % (SHORT_NAMES[kind], end, lent.hex())

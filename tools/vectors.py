@@ -229,13 +229,19 @@ byte is its highest bit in a word (document 02, request 2026-01), and its lowest
 `tools/vectors.py` finds the sheet of each code and turns the files into %(entries)d calls of judge, card, encode and read,
 %(decodes)d of decode, %(marked)d of decode_marked and %(shortened)d of encode_short, read_short and decode_short. It has also written this
 page. The plain decoder is tools/decode_answers.py, which goes through error patterns or codewords; tools/marked_answers.py does so for
-words with marks, and tools/shortened_answers.py for shortened codes; tools/entry_answers.py judges, lists, encodes and reads, and
-tools/boundary_answers.py does all of it again at every boundary, by a reading of its own (docs/MISREADINGS.md). docs/PROMISES.md says what
-they cover. `tools/answers.py` writes all calls and answers, crates/vectors/stdin and stdout.
+words with marks, tools/shortened_answers.py for shortened codes, and tools/block_answers.py for blocks; tools/entry_answers.py judges,
+lists, encodes and reads, and tools/boundary_answers.py does all of it again at every boundary, by a reading of its own
+(docs/MISREADINGS.md). docs/PROMISES.md says what they cover. `tools/answers.py` writes all calls and answers, crates/vectors/stdin and
+stdout.
 
 Of all %(all)s calls %(short)s are of encode_short, read_short and decode_short. tools/shortened_answers.py has %(answered)s of them, with m
 from 1 to k - 1, next to these and up to 2^64 - 1; every word of %(every)d short codes; and at least %(others)s words that draw 13 with a
 codeword within t places, which is no shortened one. tools/boundary_answers.py has %(bounds)s.
+
+%(blocks)s calls are of decode_block. tools/block_answers.py has %(block_answered)s of them: %(block_returned)s blocks of up to 254 bytes, with
+each m from 2 to 16, of which %(block_none)s have a word with no codeword within t places; and %(block_refused)s refusals, with m up to
+2^64 - 1. Sheets H, E, B and S, with %(block_runs)d values of m between them, have blocks of codewords with m·t neighbouring bits spoiled, and with one
+more, from every bit on. tools/boundary_answers.py has %(block_bounds)s calls.
 
 On a code of GUAVA's a word has 0 to 5 wrong places, on one of IT++'s 0 to t + 2, two words for each number.
 
@@ -255,6 +261,8 @@ What each is held to:
 - Neither file has shortened codes. A codeword whose top places are 0 is one of the code without these: encode_short and read_short get
   each of theirs with as many left out as are 0, k - 1 at most, and decode_short each received word (%(short_words)d). Where their codeword
   within t places has a 1 there, the answer is 13 (%(short_others)d words).
+- Neither file has blocks. tools/block_answers.py puts the received words of each code into blocks, m of them one after the other
+  (%(block_others)d blocks): a word has its codeword and the number of its changed places, or 255 where decode answers 13.
 - Sheets damaged in every byte: each draws the same refusal from every entry.
 
 | made by | n | k | d proved | d of GUAVA | t | b z f h L | codewords | decoded | refused with 13 |
@@ -279,17 +287,24 @@ def row(code):
 def main():
     # answers.py has this script among others
     import answers
+    import block_answers
     import boundary_answers
     import shortened_answers
     marked = [call[2][4 + call[2][0]:] for call in marked_calls()]
     kinds, bounds = ([call[1] for call in calls] for calls in (answers.all_calls(), boundary_answers.boundary_calls()))
+    blocks = list(block_answers.block_calls())
+    returned = [call[4].split()[-1] for call in blocks if call[4].startswith('decode_block returned')]
     answered, shortened = len(list(shortened_answers.shortened_calls())), [call[1] for call in shortened_calls()]
     print(PAGE % dict(itpp=first_line('itpp.txt'), guava=first_line('guava.txt'), entries=len(list(entry_calls())),
                       decodes=len(list(decode_calls())), marked=len(marked), with_marks=sum(any(marks) for marks in marked),
-                      all=f'{len(kinds):,}', short=f'{sum(kind > 7 for kind in kinds):,}', answered=f'{answered:,}',
-                      bounds=f'{sum(kind > 7 for kind in bounds):,}', every=len(shortened_answers.EVERY),
+                      all=f'{len(kinds):,}', short=f'{sum(7 < kind < 11 for kind in kinds):,}', answered=f'{answered:,}',
+                      bounds=f'{sum(7 < kind < 11 for kind in bounds):,}', every=len(shortened_answers.EVERY),
                       others=f'{shortened_answers.near_others():,}', shortened=len(shortened), short_words=shortened.count(10),
-                      short_others=short_others()), end='')
+                      short_others=short_others(), blocks=f'{kinds.count(11):,}', block_answered=f'{len(blocks):,}',
+                      block_returned=f'{len(returned):,}', block_refused=f'{len(blocks) - len(returned):,}',
+                      block_none=f'{sum(255 in bytes.fromhex(verdicts) for verdicts in returned):,}',
+                      block_runs=sum(len(few) for _, few in block_answers.RUNS), block_bounds=f'{bounds.count(11):,}',
+                      block_others=len(list(block_answers.other_calls(block_answers.Sequence(20261208))))), end='')
     for code in codes():
         print('| %s |' % ' | '.join(map(str, row(code))))
 

@@ -23,6 +23,7 @@ static const char *meaning(int32_t answer) {
     case DUNEFORK_NO_CODEWORD: return "the word is no codeword";
     case DUNEFORK_NONE_WITH_MARKS: return "no codeword with 2 e + r at most d - 1";
     case DUNEFORK_SHORTENING: return "m is 0 or not below k";
+    case DUNEFORK_INTERLEAVING_DEPTH: return "m is not 2 to 16";
     default: return "done";
     }
 }
@@ -60,6 +61,13 @@ static void shortened(const char *what, size_t m, const uint8_t *word, size_t wo
     uint8_t out[1] = {0xee};
     int32_t answer = dunefork_decode_short(sheet_h, sizeof sheet_h, m, word, word_len, out, 1);
     tell(what, answer, out);
+}
+
+/* Decoding of a block of sheet H with so many verdicts; any m but 2 to 16 is refused before the block is looked at. */
+static void block(const char *what, size_t m, const uint8_t *bits, size_t block_len, size_t verdicts_len) {
+    uint8_t out[2] = {0xee, 0xee}, verdicts[3] = {0xee, 0xee, 0xee};
+    int32_t answer = dunefork_decode_block(sheet_h, sizeof sheet_h, m, bits, block_len, out, sizeof out, verdicts, verdicts_len);
+    tell(what, answer, *out == 0xee ? verdicts : out);
 }
 
 int main(void) {
@@ -104,6 +112,17 @@ int main(void) {
     shortened("m = 2, word 30", 2, places_2_3, 1);
     tell("m = 2, read word 80", dunefork_read_short(sheet_h, sizeof sheet_h, 2, place_0, 1, out, 1), out);
     tell("m = 2, message 04", dunefork_encode_short(sheet_h, sizeof sheet_h, 2, spare_of_five, 1, out, 1), out);
+
+    /* With m = 2 a block has 14 bits and two spare ones, and out and verdicts have two bytes each. There is no 13 here: the verdict of a
+     * word that is near no codeword is 255. */
+    const uint8_t bits[3] = {0}, spare_of_block[2] = {0, 0x01};
+    block("m = 1, block 00", 1, bits, 1, 1);
+    block("m = 17, empty block", 17, NULL, 0, 0);
+    block("m = SIZE_MAX, block 00 01", SIZE_MAX, spare_of_block, 2, 2);
+    block("m = 2, block 00", 2, bits, 1, 2);
+    block("m = 2, 3 verdicts", 2, bits, 2, 3);
+    block("m = 3, out of 2 bytes", 3, bits, 3, 3);
+    block("m = 2, block 00 01", 2, spare_of_block, 2, 2);
 
     /* Pointers may be null where the length is 0. */
     tell("no sheet", dunefork_encode(NULL, 0, zero, 1, out, 1), out);

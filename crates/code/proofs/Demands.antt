@@ -1,6 +1,6 @@
 -- The three demands, each one theorem about the entries, and what document 02's requests state. This is the file to read first.
 --
--- It speaks of judgeOf, encodeOf, readOf, decodeOf, encodeShortenedOf, readShortenedOf, decodeShortenedOf, decodeMarkedOf and cardOf
+-- It speaks of judgeOf, encodeOf, readOf, decodeOf, encodeShortenedOf, readShortenedOf, decodeShortenedOf, decodeMarkedOf, decodeBlockOf and cardOf
 -- (document/specs/Short.antt) and of shownOf (Marked.antt). The contract of each entry is one equation: reply and bytes are, in the documents' numbers, what these give, whatever is handed over. So what
 -- is said of them is said of the entries.
 --
@@ -13,18 +13,20 @@
 --   Request04, request-04      2026-04, the shorter certificate of two equal ones
 --   Request05, request-05      2026-05, bits the modem isn't sure of
 --   Request06, request-06      2026-06, shortened codes
+--   Request07, request-07      2026-07, drives that wipe out a run of bits
 -- A record for each demand and for each request, a field for each clause, under the clause's words. Each demand is for every list of bytes
 -- that may be a sheet; x is what it states. The words are in specs/Published.antt and specs/Table.antt, under the documents' sentences. That
 -- the field's masks are the smallest primitive ones is mask-least of field/proofs/Smallest.antt; examples, 13 with a buffer that was not 0
 -- among them, are the tables of document/proofs/Cases.antt and ShortenedCases.antt.
 use mathlib.Core.Path.{_≡_, refl}
 use mathlib.Core.Logic.{_≢_, _↔_, _⊎_}
-use mathlib.Core.Bool.{true}
-use mathlib.Core.List.{List, [], _∷_, _++_}
+use mathlib.Core.Bool.{true, _&&_}
+use mathlib.Core.List.{List, [], _∷_, _++_, map, flatMap}
 use Prim.Native.Nat.{ℕ, suc, _+_, _-_, _*_, _/_, _%_, _^_, _≤_, _<_, _∣_}
 use native.Mathlib.Omega.{arith}
+use lib.Dec.{leb, ltb}
 use lib.ListN.{length, getD, take, drop}
-use Rattle.field.specs.Search.{total}
+use Rattle.field.specs.Search.{upTo, total, bit}
 use Rattle.field.specs.Mask.{_⊕_, coefficient, remainder}
 use Rattle.field.specs.Field.{orderOfTwo}
 use Rattle.document.specs.Answer.{returned, refused, firstOf}
@@ -37,9 +39,10 @@ use Rattle.document.specs.OtherTest.{conditionsWith}
 use Rattle.document.specs.Entry.{CodewordOf, generatorOf, radiusOf, wordOf, changed}
 use Rattle.document.specs.Marked.{markedOnes, markedZeros, marksCount, unmarkedChanged, WithinMarks, trialWord, shownOf}
 use Rattle.document.specs.Shortened.{sentWordOf, sentMessageOf, ShortenedCodeword}
+use Rattle.document.specs.Block.{blockWord, blockWordBytes, ownBytes}
 use Rattle.document.specs.Card.{refusedLine, acceptedLines, certificateText, radiusText}
 use Rattle.document.specs.Short.{short, stated, refusalsOf, judgeOf, encodeOf, readOf, decodeOf, decodeMarkedOf, listing, cardOf}
-use Rattle.document.specs.Short.{encodeShortenedOf, readShortenedOf, decodeShortenedOf}
+use Rattle.document.specs.Short.{encodeShortenedOf, readShortenedOf, decodeShortenedOf, decodeBlockOf}
 use Rattle.document.proofs.Meaning.{differ-count}
 use Rattle.document.proofs.Tested.{conditions-are}
 use Rattle.document.proofs.Working.{radius-rises, radius-most}
@@ -48,15 +51,18 @@ use Rattle.certificate.proofs.Marks.{half-or-half}
 use Rattle.code.specs.Published.{IsAccepted, SheetRead, Bytes, Word, Message, InDefiningSet, SetSize, ZeroAt}
 use Rattle.code.specs.Published.{HasDegree, Divides, Rule1, Rule3, Published, Rounded, Working, WorkingIs, Systematic, WordDecoded, MarkedCall, WordShown, kept}
 use Rattle.code.specs.Published.{Shortenable, ShortenedWord, ShortenedMessage, ShortenedSystematic, ShortenedDecoded}
+use Rattle.code.specs.Published.{Places, BlockCall, RunSpoiled}
 use Rattle.code.specs.Turns.{FirstThatHolds}
 use Rattle.code.specs.Table.{SpareBit, NoneNear, NoneWithMarks, sheetTurns, encodeTurns, readTurns, decodeTurns, markedTurns, cardTurns}
 use Rattle.code.specs.Table.{NoneNearSaid, NoCodewordSaid, NoneWithMarksSaid, Answered}
 use Rattle.code.specs.Table.{WrongShortening, NoneNearShortened, NoneNearShortenedSaid, NoShortenedCodewordSaid, encodeShortenedTurns, readShortenedTurns, decodeShortenedTurns}
+use Rattle.code.specs.Table.{WrongDepth, blockTurns}
 use Rattle.code.specs.Before.{PeriodCoprime, periodCoprime, judgeBefore, WorkingBefore, workingBefore, decodeWith}
 use Rattle.code.proofs.Tried.{judge-answered, encode-answered, read-answered, decode-answered, marked-answered, card-answered}
-use Rattle.code.proofs.Tried.{encode-short-answered, read-short-answered, decode-short-answered}
 use Rattle.code.proofs.Refusing.{read-sheet-bytes, sheet-first, marked-first, card-writes, text-refused-iff, text-listed-iff}
-use Rattle.code.proofs.Refusing.{shortened-first, thirteen-iff, fourteen-iff, fifteen-iff, sixteen-iff, thirteen-short-iff, fourteen-short-iff}
+use Rattle.code.proofs.Refusing.{thirteen-iff, fourteen-iff, fifteen-iff}
+use Rattle.code.proofs.Between.{encode-short-answered, read-short-answered, decode-short-answered, block-answered, shortened-first, block-first}
+use Rattle.code.proofs.Between.{sixteen-iff, thirteen-short-iff, fourteen-short-iff, seventeen-iff}
 use Rattle.code.proofs.Fits.{listing-fits}
 use Rattle.code.proofs.Worded.{word-spare-said, message-spare-said, mask-word, word-one, degree-said, dimension-said, generator-said}
 use Rattle.code.proofs.Worded.{generator-degree-said, multiple-said, zeros-said}
@@ -71,6 +77,7 @@ use Rattle.code.proofs.Uncertain.{marks-counted, unmarked-counted, tria
 use Rattle.code.proofs.Uncertain.{shown-said, held-said, one-decodes, zeros-decoded, ones-decoded, unmarked-said, unmarked-none}
 use Rattle.code.proofs.Uncertain.{shown-zero, shown-other, shown-short}
 use Rattle.code.proofs.Shortened as Shortened
+use Rattle.code.proofs.Blocks as Blocks
 
 module _ (sheet : List ℕ) where
   abbrev x : Stated
@@ -93,7 +100,7 @@ module _ (sheet : List ℕ) where
   pub record Demand1 : Type 0 where
     -- what is stated is what the sheet's bytes say
     pub bytes : SheetRead sheet x
-    -- each entry answers 0, or 1 to 16 with no values and the lent buffers as they were; and the number r exactly when condition r holds and
+    -- each entry answers 0, or 1 to 17 with no values and the lent buffers as they were; and the number r exactly when condition r holds and
     -- no earlier one in the documents' order does
     pub judge : Answered {B = List ℕ} (sheetTurns sheet) (judgeOf sheet, []) []
     pub encode : (message out : List ℕ) → Answered (encodeTurns sheet message out) (encodeOf sheet message out) out
@@ -104,6 +111,8 @@ module _ (sheet : List ℕ) where
     pub encode-short : (m : ℕ) (message out : List ℕ) → Answered (encodeShortenedTurns sheet m message out) (encodeShortenedOf sheet m message out) out
     pub read-short : (m : ℕ) (word out : List ℕ) → Answered (readShortenedTurns sheet m word out) (readShortenedOf sheet m word out) out
     pub decode-short : (m : ℕ) (word out : List ℕ) → Answered (decodeShortenedTurns sheet m word out) (decodeShortenedOf sheet m word out) out
+    pub decode-block : (m : ℕ) (block out verdicts : List ℕ)
+        → Answered (blockTurns sheet m block out verdicts) (decodeBlockOf sheet m block out verdicts) (out, verdicts)
     -- card's only refusal is 11, before the sheet is judged
     pub card : (out : List ℕ) → Answered (cardTurns out) (cardOf sheet out) out
     -- every entry but card refuses with the sheet's refusal, if it has one
@@ -115,6 +124,8 @@ module _ (sheet : List ℕ) where
     pub sheet-refusal-short : (m : ℕ) (input out : List ℕ) (r : ℕ) → judgeOf sheet ≡ refused r
         → (encodeShortenedOf sheet m input out ≡ (refused r, out)) × (readShortenedOf sheet m input out ≡ (refused r, out))
         × (decodeShortenedOf sheet m input out ≡ (refused r, out))
+    pub sheet-refusal-block : (m : ℕ) (block out verdicts : List ℕ) (r : ℕ) → judgeOf sheet ≡ refused r
+        → decodeBlockOf sheet m block out verdicts ≡ (refused r, (out, verdicts))
     -- card writes its text, returns the text's length, and leaves what stood after it
     pub card-text : (out : List ℕ) → length out ≡ 1024
         → cardOf sheet out ≡ (returned (length (listing sheet) ∷ []), listing sheet ++ drop (length (listing sheet)) out)
@@ -142,6 +153,9 @@ module _ (sheet : List ℕ) where
         → ((encodeShortenedOf sheet m input out .0 .number ≡ 16) ↔ (IsAccepted sheet × WrongShortening m x))
         × ((readShortenedOf sheet m input out .0 .number ≡ 16) ↔ (IsAccepted sheet × WrongShortening m x))
         × ((decodeShortenedOf sheet m input out .0 .number ≡ 16) ↔ (IsAccepted sheet × WrongShortening m x))
+    -- 17 says, whatever was handed over, of decoding a block: the sheet is accepted, and m is below 2 or above 16
+    pub seventeen : (m : ℕ) (block out verdicts : List ℕ)
+        → (decodeBlockOf sheet m block out verdicts .0 .number ≡ 17) ↔ (IsAccepted sheet × WrongDepth m)
 
   -- ---- demand 2: for every accepted sheet, in bytes
   pub record Demand2 : Type 0 where
@@ -388,6 +402,62 @@ module _ (sheet : List ℕ) where
     pub apart : IsAccepted sheet → (m b c : ℕ) → ShortenedCodeword m x b → ShortenedCodeword m x c → b ≢ c
         → d ≤ differences (x .n - m) b c
 
+  -- ---- 2026-07, drives that wipe out a run of bits: "A block carries m words". BlockCall says that the sheet is accepted, that m is 2 to 16,
+  -- and that lengths and spare bits are right.
+  pub record Request07 : Type 0 where
+    -- "bit j·m + i of the block is place j of word i, packed high bit first"
+    pub word-places : (m : ℕ) (block : List ℕ) (i j : ℕ) → j < x .n
+        → coefficient j (blockWord (x .n) m block i) ≡ getD block ((j * m + i) / 8) 0 / 2 ^ (7 - (j * m + i) % 8) % 2
+    -- in word layout it is a word, with these places
+    pub word-bytes : (m : ℕ) (block : List ℕ) (i : ℕ)
+        → Word x (blockWordBytes (x .n) m block i) × Bytes (blockWordBytes (x .n) m block i)
+        × (wordOf x (blockWordBytes (x .n) m block i) ≡ blockWord (x .n) m block i)
+    -- "A block carries m words", "spare bits 0": any m of n places
+    pub carries : (m : ℕ) (words : ℕ → ℕ) → ((i : ℕ) → i < m → words i < 2 ^ x .n)
+        → (block : List ℕ) × Places wordWeight (x .n * m) block × Bytes block × ((i : ℕ) → i < m → blockWord (x .n) m block i ≡ words i)
+    -- a call that draws no refusal answers 0; output and verdicts are as long as they were
+    pub answered : (m : ℕ) (block out verdicts : List ℕ) → BlockCall sheet m block out verdicts
+        → (decodeBlockOf sheet m block out verdicts .0 ≡ returned (0 ∷ []))
+        × (length (decodeBlockOf sheet m block out verdicts .1 .0) ≡ length out)
+        × (length (decodeBlockOf sheet m block out verdicts .1 .1) ≡ m)
+    -- "Each corrected word goes into its own bytes of the lent output": they are as decoding leaves them
+    pub each : (m : ℕ) (block out verdicts : List ℕ) → BlockCall sheet m block out verdicts → (i : ℕ) → i < m
+        → ownBytes (x .n) i (decodeBlockOf sheet m block out verdicts .1 .0)
+        ≡ decodeOf sheet (blockWordBytes (x .n) m block i) (ownBytes (x .n) i out) .1
+    -- "A verdict byte for each word holds its changed places": where a codeword is within t places of word i, it is in the word's own bytes, and
+    -- the verdict is the number of places in which they differ;
+    pub near : (m : ℕ) (block out verdicts : List ℕ) → BlockCall sheet m block out verdicts → (i : ℕ) → i < m → (c : ℕ) → CodewordOf x c
+        → differences (x .n) (blockWord (x .n) m block i) c ≤ t
+        → (ownBytes (x .n) i (decodeBlockOf sheet m block out verdicts .1 .0) ≡ bytesOf wordWeight (x .n) c)
+        × (getD (decodeBlockOf sheet m block out verdicts .1 .1) i 0 ≡ differences (x .n) (blockWord (x .n) m block i) c)
+    -- "or 255 for none near", exactly;
+    pub none-near : (m : ℕ) (block out verdicts : List ℕ) → BlockCall sheet m block out verdicts → (i : ℕ) → i < m
+        → (getD (decodeBlockOf sheet m block out verdicts .1 .1) i 0 ≡ 255)
+        ↔ ((c : ℕ) → CodewordOf x c → t < differences (x .n) (blockWord (x .n) m block i) c)
+    -- and "a word with no codeword within t leaves its bytes as they were"
+    pub none-near-bytes : (m : ℕ) (block out verdicts : List ℕ) → BlockCall sheet m block out verdicts → (i : ℕ) → i < m
+        → getD (decodeBlockOf sheet m block out verdicts .1 .1) i 0 ≡ 255
+        → ownBytes (x .n) i (decodeBlockOf sheet m block out verdicts .1 .0) ≡ ownBytes (x .n) i out
+    -- of a run of at most m·r bits at most r are of each word
+    pub run-few : (m r start run i n : ℕ) → run ≤ m * r → total n (λ j. bit (leb start (j * m + i) && ltb (j * m + i) (start + run))) ≤ r
+    -- "A block of codewords with at most m·t neighbouring bits spoiled, none spare, always comes back whole": every word is the one that was
+    -- sent, and every verdict the number of its spoiled places,
+    pub whole : (m : ℕ) (block out verdicts : List ℕ) → BlockCall sheet m block out verdicts
+        → (sent : List ℕ) → ((i : ℕ) → i < m → CodewordOf x (blockWord (x .n) m sent i))
+        → (start run : ℕ) → run ≤ m * t → RunSpoiled m x sent block start run
+        → decodeBlockOf sheet m block out verdicts
+        ≡ (
+          returned (0 ∷ []),
+          (
+            flatMap (blockWordBytes (x .n) m sent) (upTo m),
+            map (λ i. differences (x .n) (blockWord (x .n) m block i) (blockWord (x .n) m sent i)) (upTo m),
+          ),
+        )
+    -- which are those whose bit was received other than it was sent
+    pub spoiled-places : (m : ℕ) (sent received : List ℕ) (i : ℕ)
+        → differences (x .n) (blockWord (x .n) m received i) (blockWord (x .n) m sent i)
+        ≡ total (x .n) (λ j. (place wordWeight received (j * m + i) + place wordWeight sent (j * m + i)) % 2)
+
 -- ---- of bytes alone: 2026-01, highest bit first: for all bytes; spare bits for a buffer of the right length
 pub record Request01 : Type 0 where
   -- "place i of a word has weight 2^(7 - i mod 8) in byte i div 8"
@@ -413,10 +483,12 @@ demand-1 sheet = record {
   encode-short = encode-short-answered sheet;
   read-short = read-short-answered sheet;
   decode-short = decode-short-answered sheet;
+  decode-block = block-answered sheet;
   card = card-answered sheet;
   sheet-refusal = sheet-first sheet;
   sheet-refusal-marked = marked-first sheet;
   sheet-refusal-short = shortened-first sheet;
+  sheet-refusal-block = block-first sheet;
   card-text = card-writes sheet;
   card-fits = listing-fits sheet;
   card-refusal = text-refused-iff sheet;
@@ -427,6 +499,7 @@ demand-1 sheet = record {
   thirteen-short = thirteen-short-iff sheet;
   fourteen-short = fourteen-short-iff sheet;
   sixteen = sixteen-iff sheet;
+  seventeen = seventeen-iff sheet;
 }
 
 pub demand-2 : (sheet : List ℕ) → Demand2 sheet
@@ -543,4 +616,19 @@ request-06 sheet = record {
   other-near = Shortened.other-near sheet;
   differ = Shortened.counted-said (stated sheet);
   apart = Shortened.apart-said sheet;
+}
+
+pub request-07 : (sheet : List ℕ) → Request07 sheet
+request-07 sheet = record {
+  word-places = Blocks.word-places (stated sheet .n);
+  word-bytes = Blocks.word-bytes (stated sheet);
+  carries = Blocks.carries (stated sheet .n);
+  answered = Blocks.answered sheet;
+  each = Blocks.each-said sheet;
+  near = Blocks.near-said sheet;
+  none-near = Blocks.none-near-said sheet;
+  none-near-bytes = Blocks.none-near-bytes sheet;
+  run-few = Blocks.run-few;
+  whole = Blocks.whole-said sheet;
+  spoiled-places = Blocks.spoiled-places (stated sheet .n);
 }

@@ -5,6 +5,7 @@
 --   encode-short-sheet, read-short-sheet, decode-short-sheet      a refused sheet where the code is shortened
 --   encode-short-m, read-short-m, decode-short-m      16 of an accepted one
 --   encode-short-accepted, read-short-accepted, decode-short-accepted      an accepted one, and m is right
+--   block-sheet, block-m, block-accepted      the same of a block of words: a refused sheet, 17, and an accepted one with a right m
 --   unshortened-encoding, unshortened-reading      with m = 0 they are encoding and reading out
 --   encode-message, encode-out, encode-spare, encode-done      the exits of encoding a message, of whatever was stated
 --   read-word, read-out, read-spare, read-none, read-done      those of reading out
@@ -28,6 +29,7 @@ use Rattle.document.specs.Shortened.{wrongShortening, shorteningConditions, sen
 use Rattle.document.specs.Shortened.{encodeShortenedConditions, encodeShortenedEntry, readShortenedConditions, readShortenedEntry}
 use Rattle.document.specs.Shortened.{decodeShortenedConditions, decodeShortenedEntry}
 use Rattle.document.specs.Marked.{markedConditions, markedEntry}
+use Rattle.document.specs.Block.{wrongDepth, depthConditions, blockConditions, blockEntry}
 use Rattle.document.proofs.Settled.{entry-sheet, sheet-before, entry-between, entry-quiet, entry-refused, entry-done, first-nil, size-wrong, size-right}
 use Rattle.document.proofs.Chain.{Quiet, silent, passing, quiet-append, first-true, first-false}
 use Rattle.judging.proofs.Weighing.{number-pos}
@@ -119,6 +121,26 @@ module _ (sheet : Conditions) (x : Stated) (m : ℕ) (input out : List ℕ) wher
     pub decode-short-accepted : decodeShortenedEntry [] m x input out ≡ decodeShortenedEntry all m x input out
     unfolding decodeShortenedEntry
     decode-short-accepted = entry-quiet (decodeShortenedConditions m x input out) _ _ out (all-quiet q e)
+
+-- ---- the same of a block of words
+module _ (sheet : Conditions) (x : Stated) (m : ℕ) (block out verdicts : List ℕ) where
+  pub block-sheet : (q : Refusal) → refused (numberOf q) ≡ judgeEntry sheet x
+      → (refused (numberOf q), (out, verdicts)) ≡ blockEntry (sheet ++ depthConditions m) m x block out verdicts
+  unfolding blockEntry
+  block-sheet q e =
+      sheet-before sheet (depthConditions m) (blockConditions m x block out verdicts) x _ _ (out, verdicts) (numberOf q) (number-pos q) e
+
+  pub block-m : Quiet sheet → wrongDepth m ≡ true
+      → (refused 17, (out, verdicts)) ≡ blockEntry (sheet ++ depthConditions m) m x block out verdicts
+  unfolding blockEntry
+  block-m q e =
+      entry-between sheet (depthConditions m) (blockConditions m x block out verdicts) x _ _ (out, verdicts) 16 q
+      (first-true (17, wrongDepth m) [] e)
+
+  pub block-accepted : Quiet sheet → wrongDepth m ≡ false
+      → blockEntry [] m x block out verdicts ≡ blockEntry (sheet ++ depthConditions m) m x block out verdicts
+  unfolding blockEntry
+  block-accepted q e = entry-quiet (blockConditions m x block out verdicts) _ _ (out, verdicts) (quiet-append q (passing e silent))
 
 -- ---- with m = 0
 module _ (x : Stated) (input out : List ℕ) where

@@ -1,6 +1,6 @@
 -- Conditions that are computed, and the same as statements.
 --
---   Says b P                 the test b is true exactly when P holds; stable: so P holds where it is not refuted
+--   Says b P                 the test b is true exactly when P holds; stable: so P holds where it is not refuted; same: two numbers are equal there
 --   Said top conditions turns      row by row: one number, from 1 to top; and where no row before holds, the test says the statement
 --   said-none, said-first    so no test is true exactly when no statement holds, and the first true one is the first that holds
 --   said-le                  its number is at most top; said-quiet: where none holds, the tests are quiet
@@ -16,7 +16,7 @@ use Rattle.field.proofs.Search.{true-ne-false}
 use Rattle.document.specs.Answer.{Conditions, firstOf, settleIn, settle}
 use Rattle.document.proofs.Sane.{settle-number}
 use Rattle.document.proofs.Chain.{Quiet, silent, passing, first-true, first-false}
-use Rattle.document.proofs.Reflect.{Says}
+use Rattle.document.proofs.Reflect.{Says, eqb-iff}
 use Rattle.code.specs.Turns.{Turns, FirstThatHolds, NoneHolds}
 use Rattle.code.specs.Table.{lastRefusal, Answered}
 
@@ -34,6 +34,9 @@ holds-or false P w = inr (refl, λ p. true-ne-false (w .1 p) refl)
 
 pub stable : {b : Bool} {P : Type 0} → Says b P → ¬ ¬ P → P
 stable {b} {P} w n = elim (holds-or b P w) [ inl h ↦ h .1 | inr h ↦ absurd (n (h .1)) ]
+
+pub same : {a b : ℕ} → ¬ ¬ (a ≡ b) → a ≡ b
+same {a} {b} n = stable (eqb-iff a b) n
 
 module _ (top : ℕ) where
   pub said-none : (l : Conditions) (t : Turns) → Said top l t → (firstOf l ≡ 0) ↔ NoneHolds t

@@ -1,7 +1,8 @@
 -- The entries on an accepted sheet of any kind, from its parts.
 --
---   number-le          a refusal's number is at most 16
+--   number-le          a refusal's number is at most 17
 --   record-distance    d of the record is the sheet's distance
+--   depth-range        an m that is not outside 2 to 16
 --   first-is           a refusal's number is that of the first condition that holds
 --   Ready, ready       what an accepted sheet grants the entries: its numbers, and its representatives as they were read
 --   part, usable-part, shortening-is, shortening-less, given, terms-few, states      what encoding, reading out and decoding need
@@ -15,14 +16,14 @@ use native.Mathlib.Decide.{ℕ-discrete}
 use native.Mathlib.Omega.{arith}
 use lib.Dec.{eqb, leb, ltb}
 use lib.ListN.{length, getD, take, replicate, length-replicate, getD-replicate}
-use borrow.Author.Tests.{lt-ltb, le-leb, lt-leb, leb-false}
+use borrow.Author.Tests.{lt-ltb, le-leb, lt-leb, leb-false, ltb-false}
 use Rattle.field.specs.Search.{some}
 use Rattle.field.proofs.Search.{true-ne-false, some-false}
 use Rattle.binary.specs.Factor.{degree}
 use Rattle.document.specs.declared.types.Refusal.{Refusal}
 use Rattle.document.specs.declared.types.Refusal.the-variants.{SheetLength, CodeLength, FieldDegree, Header, Representative}
 use Rattle.document.specs.declared.types.Refusal.the-variants.{NoMessage, Range, CommonFactor, Period, Term, BufferLength, SpareBit}
-use Rattle.document.specs.declared.types.Refusal.the-variants.{NoneNear, NoCodeword, NoneWithMarks, Shortening}
+use Rattle.document.specs.declared.types.Refusal.the-variants.{NoneNear, NoCodeword, NoneWithMarks, Shortening, InterleavingDepth}
 use Rattle.document.specs.Answer.{Answer, returned, refused, numberOf, firstOf}
 use Rattle.document.specs.Sheet.{Certificate, Stated, certificateAt, Kind, statedBy}
 use Rattle.document.specs.Coset.{smallest, inSet}
@@ -31,6 +32,7 @@ use Rattle.document.specs.Certificate.{distance, radius}
 use Rattle.document.specs.Judge.{wrongRepresentative, judgeConditions, workingOf, workingCertificate, recordOf}
 use Rattle.document.specs.Entry.{radiusOf}
 use Rattle.document.specs.Marked.{distanceOf}
+use Rattle.document.specs.Block.{wrongDepth}
 use Rattle.document.specs.Shortened.{wrongShortening}
 use Rattle.document.proofs.Chain.{Quiet}
 use Rattle.document.proofs.Stated.{Counted, counted, odd-to, tabulated-length}
@@ -51,7 +53,7 @@ use Rattle.listing.specs.Accepted as Page
 use Rattle.code.specs.Stating.{CardListable, CardLists, CardListed, JudgedInto}
 use Rattle.code.proofs.Accepted.{Limits, Recorded, judged-record, recorded, conditions, coded, usable, usable-by, part-is}
 
-pub number-le : (q : Refusal) → numberOf q ≤ 16
+pub number-le : (q : Refusal) → numberOf q ≤ 17
 number-le SheetLength = omega arith
 number-le CodeLength = omega arith
 number-le FieldDegree = omega arith
@@ -68,6 +70,7 @@ number-le NoneNear = omega arith
 number-le NoCodeword = omega arith
 number-le NoneWithMarks = omega arith
 number-le Shortening = omega arith
+number-le InterleavingDepth = omega arith
 
 pub first-is : (kind : Kind) (sheet : List ℕ) {r : ℕ} → refused r ≡ judgeBy kind sheet → firstOf (judgeConditions kind sheet) ≡ r
 first-is kind sheet e = sym (judge-number kind sheet) ∙ sym (ap (λ (a : Answer). a .number) e)
@@ -81,6 +84,16 @@ record-distance {kind} {sheet} j e = ap (λ v. getD v 4 0) (judged-record kind s
 or-none : (a b : Bool) → a || b ≡ false → b ≡ false
 or-none true b e = absurd (true-ne-false refl e)
 or-none false b e = e
+
+or-first : (a b : Bool) → a || b ≡ false → a ≡ false
+or-first true b e = absurd (true-ne-false refl e)
+or-first false b e = refl
+
+-- an m that is not outside 2 to 16
+pub depth-range : (m : ℕ) {wrong : Bool} → wrong ≡ wrongDepth m → wrong ≡ false → (2 ≤ m) × (m ≤ 16)
+depth-range m e q =
+    let none : wrongDepth m ≡ false = sym e ∙ q in
+    (ltb-false m 2 (or-first (ltb m 2) (ltb 16 m) none), ltb-false 16 m (or-none (ltb m 2) (ltb 16 m) none))
 
 -- ---- an accepted sheet
 pub record Ready (kind : Kind) (sheet : List ℕ) (n k s working t : ℕ) (w : List ℕ) : Type 0 where

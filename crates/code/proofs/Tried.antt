@@ -1,22 +1,20 @@
--- Each entry's conditions, in its order, are the statements of document 01's table.
+-- Each entry's conditions, in its order, are the statements of document 01's table. The entries that are handed m are Between.antt's.
 --
 --   length-of                a length that draws neither 2 nor 3
 --   head-said, sheet-said      the conditions 1 to 6, and 1 to 10
 --   accepted-of              where none of 1 to 10 holds, the sheet is accepted
+--   size-said, spare-said    11 and 12, of any buffer
 --   codeword-said, near-said, marks-said      a codeword as it is tested; no codeword near, or with marks, as it is searched for
 --   judge-answered, encode-answered, read-answered, decode-answered, marked-answered, card-answered      what each entry answers
---   encode-short-answered, read-short-answered, decode-short-answered      the same of shortened codes
 use mathlib.Core.Path.{_≡_, refl}
 use mathlib.Core.Logic.{_≢_, inl, inr, Iff·trans, Iff·not}
 use mathlib.Core.Bool.{not}
-use mathlib.Core.List.{List, [], _∷_, _++_}
+use mathlib.Core.List.{List, [], _++_}
 use Prim.Native.Nat.{ℕ, _+_, _-_, _/_, _%_, _^_, _≤_}
-use native.Mathlib.Nat.{lt-of-lt-of-le}
 use native.Mathlib.Decide.{decLt}
 use native.Mathlib.Omega.{arith}
 use lib.Dec.{eqb}
 use lib.ListN.{length}
-use lib.Pow.{pow-mono}
 use borrow.Author.Tests.{lt-ltb}
 use Rattle.field.specs.Field.{OddLength, orderOfTwo}
 use Rattle.codeword.proofs.Places.{mask-lt}
@@ -29,24 +27,16 @@ use Rattle.document.specs.Judge.{wrongDegree, noMessage, sheetConditions, judge
 use Rattle.document.specs.Entry.{CodewordOf, generatorOf, wordOf, nearestMessage, encodeConditions, encodeEntry, readConditions, readEntry}
 use Rattle.document.specs.Entry.{decodeConditions, decodeEntry}
 use Rattle.document.specs.Marked.{markedMessage, markedConditions, markedEntry}
-use Rattle.document.specs.Shortened.{wrongShortening, shorteningConditions, sentWordOf, ShortenedCodeword, shortenedMessage}
-use Rattle.document.specs.Shortened.{encodeShortenedConditions, encodeShortenedEntry, readShortenedConditions, readShortenedEntry}
-use Rattle.document.specs.Shortened.{decodeShortenedConditions, decodeShortenedEntry}
 use Rattle.document.specs.Card.{cardConditions, cardEntry}
 use Rattle.document.specs.Short.{short, stated, refusalsOf, judgeOf, encodeOf, readOf, decodeOf, decodeMarkedOf, cardOf}
-use Rattle.document.specs.Short.{refusalsToShorten, encodeShortenedOf, readShortenedOf, decodeShortenedOf}
-use Rattle.document.proofs.Reflect.{Says, not-iff, eqb-iff, leb-iff, or-of, not-eq-iff}
+use Rattle.document.proofs.Reflect.{Says, not-iff, eqb-iff, not-eq-iff}
 use Rattle.document.proofs.Meaning.{length-iff, code-length-iff, header-iff, representative-iff, degree-iff, no-message-iff, spare-iff}
 use Rattle.document.proofs.Theory.{Length}
 use Rattle.certificate.proofs.Sheets as Sheets
 use Rattle.certificate.proofs.Marks.{marked-none}
-use Rattle.certificate.proofs.Shortening.{shortened-none}
 use Rattle.code.specs.Turns.{NoneHolds}
 use Rattle.code.specs.Table.{WrongCodeLength, WrongDegree, NoMessage, WrongBufferLength, SpareBit, NoneNear, headTurns, sheetTurns, encodeOwn, encodeTurns}
 use Rattle.code.specs.Table.{NoneWithMarks, readOwn, readTurns, decodeOwn, decodeTurns, markedOwn, markedTurns, cardTurns, lastRefusal, Answered}
-use Rattle.code.specs.Turns.{Turns}
-use Rattle.code.specs.Table.{WrongShortening, NoneNearShortened, encodeShortenedOwn, readShortenedOwn, decodeShortenedOwn, shortenedTurns}
-use Rattle.code.specs.Table.{encodeShortenedTurns, readShortenedTurns, decodeShortenedTurns}
 use Rattle.code.proofs.InTurn.{Said, said-none, said-append, answered, judged-answered}
 use Rattle.code.proofs.Rules.{certificates-said}
 
@@ -67,9 +57,13 @@ pub card-said : (out : List ℕ) → Said lastRefusal (cardConditions 1024 out) 
 unfolding cardConditions
 card-said out = (omega arith, omega arith, refl, not-eq-iff (length out) 1024, λ n. tt)
 
-none-front : (s t : Turns) → NoneHolds (s ++ t) → NoneHolds s
-none-front [] t none = tt
-none-front (turn ∷ s) t none = (none .0, none-front s t (none .1))
+pub size-said : (places : ℕ) (buffer : List ℕ) → Says (not (eqb (length buffer) (bytesFor places))) (WrongBufferLength places buffer)
+unfolding bytesFor
+size-said places buffer = not-eq-iff (length buffer) ((places + 7) / 8)
+
+pub spare-said : (weight : ℕ → ℕ) (n : ℕ) (bytes : List ℕ) → Says (spare weight n bytes) (SpareBit weight n bytes)
+unfolding bytesFor
+spare-said weight n bytes = spare-iff weight n bytes
 
 module _ (sheet : List ℕ) where
   abbrev x : Stated
@@ -127,15 +121,7 @@ module _ (sheet : List ℕ) where
   usable : NoneHolds (sheetTurns sheet) → Sheets.Accepted x
   usable none = Sheets.accepted short (omega arith) sheet (accepted-of none)
 
-  -- ---- 11 to 15
-  size-said : (places : ℕ) (buffer : List ℕ) → Says (not (eqb (length buffer) (bytesFor places))) (WrongBufferLength places buffer)
-  unfolding bytesFor
-  size-said places buffer = not-eq-iff (length buffer) ((places + 7) / 8)
-
-  spare-said : (weight : ℕ → ℕ) (n : ℕ) (bytes : List ℕ) → Says (spare weight n bytes) (SpareBit weight n bytes)
-  unfolding bytesFor
-  spare-said weight n bytes = spare-iff weight n bytes
-
+  -- ---- 13 to 15
   pub codeword-said : (word : List ℕ)
       → Says (isCodeword (x .n - dimensionOf x) (generatorOf x) (wordOf x word)) (CodewordOf x (wordOf x word))
   unfolding dimensionOf generatorOf
@@ -284,120 +270,6 @@ module _ (sheet : List ℕ) where
     marked-answered =
         answered (refusalsOf sheet ++ markedConditions x word marks zeros ones) (markedTurns sheet word marks zeros ones)
         (said-append lastRefusal (refusalsOf sheet) (sheetTurns sheet) _ _ sheet-said (λ none. marked-own (usable none))) _ _ (zeros, ones)
-
-  -- ---- shortened codes
-  module _ (m : ℕ) where
-    pub shortening-said : Says (wrongShortening m x) (WrongShortening m x)
-    shortening-said = or-of (eqb-iff m 0) (leb-iff (dimensionOf x) m)
-
-    pub shortened-said : Said lastRefusal (refusalsToShorten sheet m) (shortenedTurns sheet m)
-    shortened-said =
-        said-append lastRefusal (refusalsOf sheet) (sheetTurns sheet) (shorteningConditions m x) ((16, WrongShortening m x) ∷ []) sheet-said
-        (λ none. (omega arith, omega arith, refl, shortening-said, λ n. tt))
-
-    front : NoneHolds (shortenedTurns sheet m) → NoneHolds (sheetTurns sheet)
-    front none = none-front (sheetTurns sheet) ((16, WrongShortening m x) ∷ []) none
-
-    module _ (input out : List ℕ) where
-      encode-short-own : Said lastRefusal (encodeShortenedConditions m x input out) (encodeShortenedOwn m x input out)
-      unfolding encodeShortenedConditions
-      encode-short-own = (
-        omega arith,
-        omega arith,
-        refl,
-        size-said (dimensionOf x - m) input,
-        λ n₁. (
-          omega arith,
-          omega arith,
-          refl,
-          size-said (x .n - m) out,
-          λ n₂. (omega arith, omega arith, refl, spare-said messageWeight (dimensionOf x - m) input, λ n₃. tt),
-        ),
-      )
-
-      word-said : Says (isCodeword (x .n - dimensionOf x) (generatorOf x) (sentWordOf m x input)) (ShortenedCodeword m x (sentWordOf m x input))
-      unfolding dimensionOf generatorOf
-      word-said = (
-        λ e. record {
-          is-codeword = record { small = lt-of-lt-of-le (mask-lt wordWeight (x .n - m) input) (pow-mono (omega arith)); is = e };
-          top-zero = mask-lt wordWeight (x .n - m) input;
-        },
-        λ c. c .is-codeword .is,
-      )
-
-      pub read-short-own : Said lastRefusal (readShortenedConditions m x input out) (readShortenedOwn m x input out)
-      unfolding readShortenedConditions
-      read-short-own = (
-        omega arith,
-        omega arith,
-        refl,
-        size-said (x .n - m) input,
-        λ n₁. (
-          omega arith,
-          omega arith,
-          refl,
-          size-said (dimensionOf x - m) out,
-          λ n₂. (
-            omega arith,
-            omega arith,
-            refl,
-            spare-said wordWeight (x .n - m) input,
-            λ n₃. (
-              omega arith,
-              omega arith,
-              refl,
-              Iff·trans (not-iff (isCodeword (x .n - dimensionOf x) (generatorOf x) (sentWordOf m x input))) (Iff·not word-said),
-              λ n₄. tt,
-            ),
-          ),
-        ),
-      )
-
-      pub decode-short-own : Sheets.Accepted x → Said lastRefusal (decodeShortenedConditions m x input out) (decodeShortenedOwn m x input out)
-      unfolding decodeShortenedConditions
-      decode-short-own a = (
-        omega arith,
-        omega arith,
-        refl,
-        size-said (x .n - m) input,
-        λ n₁. (
-          omega arith,
-          omega arith,
-          refl,
-          size-said (x .n - m) out,
-          λ n₂. (
-            omega arith,
-            omega arith,
-            refl,
-            spare-said wordWeight (x .n - m) input,
-            λ n₃. (
-              omega arith,
-              omega arith,
-              refl,
-              Iff·trans (eqb-iff (shortenedMessage m x input) (2 ^ dimensionOf x)) (shortened-none a m input),
-              λ n₄. tt,
-            ),
-          ),
-        ),
-      )
-
-      pub encode-short-answered : Answered (encodeShortenedTurns sheet m input out) (encodeShortenedOf sheet m input out) out
-      unfolding encodeShortenedEntry
-      encode-short-answered =
-          answered (refusalsToShorten sheet m ++ encodeShortenedConditions m x input out) (encodeShortenedTurns sheet m input out)
-          (said-append lastRefusal (refusalsToShorten sheet m) (shortenedTurns sheet m) _ _ shortened-said (λ none. encode-short-own)) _ _ out
-
-      pub read-short-answered : Answered (readShortenedTurns sheet m input out) (readShortenedOf sheet m input out) out
-      unfolding readShortenedEntry
-      read-short-answered =
-          answered (refusalsToShorten sheet m ++ readShortenedConditions m x input out) (readShortenedTurns sheet m input out)
-          (said-append lastRefusal (refusalsToShorten sheet m) (shortenedTurns sheet m) _ _ shortened-said (λ none. read-short-own)) _ _ out
-
-      pub decode-short-answered : Answered (decodeShortenedTurns sheet m input out) (decodeShortenedOf sheet m input out) out
-      unfolding decodeShortenedEntry
-      decode-short-answered =
-          answered (refusalsToShorten sheet m ++ decodeShortenedConditions m x input out) (decodeShortenedTurns sheet m input out)
-          (said-append lastRefusal (refusalsToShorten sheet m) (shortenedTurns sheet m) _ _ shortened-said (λ none. decode-short-own (usable (front none)))) _ _ out
 
   pub judge-answered : Answered {B = List ℕ} (sheetTurns sheet) (judgeOf sheet, []) []
   unfolding judgeEntry

@@ -1,4 +1,4 @@
--- What document 01 publishes, with document 02's layout of words, rule 3, choice of a certificate, words with marked places and shortened codes, as statements: the words in which
+-- What document 01 publishes, with document 02's layout of words, rule 3, choice of a certificate, words with marked places, shortened codes and blocks of words, as statements: the words in which
 -- proofs/Demands.antt says the three demands and the requests. The conditions of a certificate have no search in them; s, k, the generator and the working certificate,
 -- which the definitions search for or compute, are named, and fields of the demands say what they are (degree, dimension, generator, working).
 --
@@ -15,6 +15,7 @@
 --   ShortenedWord, ShortenedMessage      words and messages of a shortened code in bytes
 --   Systematic, WordDecoded, WordShown      what encoding, decoding, and decoding with marks write
 --   ShortenedSystematic, ShortenedDecoded      the same of a shortened code
+--   BlockCall, RunSpoiled          a call of decoding a block that draws no refusal, and a run of spoiled bits (2026-07)
 --   kept m g k a j                 what is kept after the highest j of the k bits of a (2026-02)
 -- No contract of an entry cites this file.
 use mathlib.Core.Path.{_≡_}
@@ -264,3 +265,18 @@ pub record ShortenedDecoded (m : ℕ) (x : Stated) (word : List ℕ) (reply : An
   pub near : differences (x .n) (sentWordOf m x word) (sentWordOf m x (reply .1)) ≤ radiusOf x
   pub counted : reply .0 .values ≡ differences (x .n) (sentWordOf m x word) (sentWordOf m x (reply .1)) ∷ []
   pub others : (c : ℕ) → CodewordOf x c → c ≢ sentWordOf m x (reply .1) → radiusOf x < differences (x .n) (sentWordOf m x word) c
+
+-- ---- blocks of interleaved words (2026-07)
+-- a call of decoding a block that draws no refusal
+pub record BlockCall (sheet : List ℕ) (m : ℕ) (block out verdicts : List ℕ) : Type 0 where
+  pub accepted : IsAccepted sheet
+  pub depth : (2 ≤ m) × (m ≤ 16)
+  pub is-block : Places wordWeight (stated sheet .n * m) block
+  pub out-long : length out ≡ m * ((stated sheet .n + 7) / 8)
+  pub verdicts-long : length verdicts ≡ m
+
+-- a block that was sent, and what was received: the bits are the same but for a run of neighbouring ones, "none spare". Those of the run may
+-- each be wrong or right.
+pub record RunSpoiled (m : ℕ) (x : Stated) (sent received : List ℕ) (start run : ℕ) : Type 0 where
+  pub below : start + run ≤ x .n * m
+  pub outside : (p : ℕ) → p < x .n * m → (p < start) ⊎ (start + run ≤ p) → place wordWeight received p ≡ place wordWeight sent p

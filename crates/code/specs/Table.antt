@@ -3,12 +3,14 @@
 --   WrongSheetLength .. NoMessage      the conditions 1 to 6 of a sheet
 --   WrongBufferLength, SpareBit, NoneNear, NoneWithMarks      11, 12, 13 and 15
 --   WrongShortening, NoneNearShortened      16, and 13 of a shortened code
+--   WrongDepth                     17
 --   NoneNearSaid, NoCodewordSaid, NoneWithMarksSaid      what 13, 14 and 15 say
 --   NoneNearShortenedSaid, NoShortenedCodewordSaid       what 13 and 14 say of a shortened code
 --   certificateTurns               7 to 10, of one certificate
 --   sheetTurns sheet               1 to 10
 --   encodeTurns, readTurns, decodeTurns, markedTurns, cardTurns      all that an entry tries
 --   encodeShortenedTurns, readShortenedTurns, decodeShortenedTurns      the same of shortened codes
+--   blockTurns                     the same of a block of words
 --   lastRefusal; Answered turns reply before      what an entry answers by them, and what it leaves in the lent buffers
 -- No contract of an entry cites this file.
 use mathlib.Core.Path.{_≡_}
@@ -175,6 +177,20 @@ decodeShortenedOwn m x word out =
     ∷ (13, NoneNearShortened m x word)
     ∷ []
 
+-- 17 (2026-07): "an m outside 2 to 16"
+abbrev pub WrongDepth : ℕ → Type 0
+WrongDepth m = (m < 2) ⊎ (16 < m)
+
+-- "A block carries m words", of n places each. "The output is m words long, one after the other in word layout, and the verdicts m bytes." ..
+-- "Buffer lengths and spare bits are 11 and 12"
+abbrev pub blockOwn : ℕ → Stated → List ℕ → List ℕ → List ℕ → Turns
+blockOwn m x block out verdicts =
+    (11, WrongBufferLength (x .n * m) block)
+    ∷ (11, length out ≢ m * ((x .n + 7) / 8))
+    ∷ (11, length verdicts ≢ m)
+    ∷ (12, SpareBit wordWeight (x .n * m) block)
+    ∷ []
+
 abbrev pub encodeTurns : List ℕ → List ℕ → List ℕ → Turns
 encodeTurns sheet message out = sheetTurns sheet ++ encodeOwn (stated sheet) message out
 
@@ -199,6 +215,13 @@ readShortenedTurns sheet m word out = shortenedTurns sheet m ++ readShortenedOwn
 
 abbrev pub decodeShortenedTurns : List ℕ → ℕ → List ℕ → List ℕ → Turns
 decodeShortenedTurns sheet m word out = shortenedTurns sheet m ++ decodeShortenedOwn m (stated sheet) word out
+
+-- "refusal 17, after the sheet's and before 11"
+abbrev pub interleavedTurns : List ℕ → ℕ → Turns
+interleavedTurns sheet m = sheetTurns sheet ++ (17, WrongDepth m) ∷ []
+
+abbrev pub blockTurns : List ℕ → ℕ → List ℕ → List ℕ → List ℕ → Turns
+blockTurns sheet m block out verdicts = interleavedTurns sheet m ++ blockOwn m (stated sheet) block out verdicts
 
 -- what 13 says, 14 and 15, whatever was handed over
 pub record NoneNearSaid (sheet word out : List ℕ) : Type 0 where
@@ -247,12 +270,12 @@ cardTurns out = (11, length out ≢ 1024) ∷ []
 
 -- the last number: "Demand 1's fourteen refusals grow by those numbered in these requests."
 abbrev pub lastRefusal : ℕ
-lastRefusal = 16
+lastRefusal = 17
 
 -- "A refusal returns its number alone and changes no lent byte. Each has one condition and is returned only then." B: the bytes of one
 -- lent buffer, or of two
 pub record Answered {B : Type 0} (turns : Turns) (reply : Answer × B) (before : B) : Type 0 where
-  -- the number is 0, or 1 to 16
+  -- the number is 0, or 1 to 17
   pub range : reply .0 .number ≤ lastRefusal
   -- 0 exactly when no condition holds
   pub done : (reply .0 .number ≡ 0) ↔ NoneHolds turns

@@ -1,5 +1,5 @@
-// The entries, each for any input: judge, encode, read and decode, these three of shortened codes too, decode_marked with shown, and card; and
-// the numbers of refusals.
+// The entries, each for any input: judge, encode, read and decode, these three of shortened codes too, decode_marked with shown, decode_block,
+// and card; and the numbers of refusals.
 
 // the documents' numbers of refusals
 pub mod refusal;
@@ -24,6 +24,9 @@ pub mod decode;
 
 // a received word with marked places to the codeword that fits it
 pub mod marked;
+
+// a received block of words to the codewords near them
+pub mod block;
 
 // a sheet to its listing
 pub mod card;

@@ -24,5 +24,6 @@ pub fn refusal_number(r: Refusal) -> usize
         Refusal::NoCodeword => 14,
         Refusal::NoneWithMarks => 15,
         Refusal::Shortening => 16,
+        Refusal::InterleavingDepth => 17,
     }
 }

@@ -3,6 +3,9 @@
 // single places, four or eight at once, and spare bits
 pub mod layout;
 
+// words taken out of a block
+pub mod block;
+
 // what the encoder keeps: a remainder by the generator
 pub mod remainder;
 

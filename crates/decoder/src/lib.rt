@@ -1,5 +1,5 @@
 // From a received word to the places to change, and its bytes with these changed, or refusal 13; and the same with marked places, or
-// refusal 15. decode.rt says how it goes, marked.rt with marks.
+// refusal 15; and a block of words. decode.rt says how it goes, marked.rt with marks, block.rt with a block.
 
 // what correcting a word says
 pub mod types;
@@ -24,3 +24,6 @@ pub mod trials;
 
 // an accepted sheet's received word and its marks: refusals 11, 12 and 15
 pub mod marked;
+
+// an accepted sheet's block of words: refusals 11 and 12, and a verdict for each word
+pub mod block;

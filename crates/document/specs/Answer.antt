@@ -13,7 +13,7 @@ use Rattle.document.specs.declared.types.Refusal.{Refusal}
 use Rattle.document.specs.declared.types.Refusal.the-variants.{SheetLength, CodeLength, FieldDegree, Header, Representative}
 use Rattle.document.specs.declared.types.Refusal.the-variants.{NoMessage}
 use Rattle.document.specs.declared.types.Refusal.the-variants.{Range, CommonFactor, Period, Term, BufferLength, SpareBit}
-use Rattle.document.specs.declared.types.Refusal.the-variants.{NoneNear, NoCodeword, NoneWithMarks, Shortening}
+use Rattle.document.specs.declared.types.Refusal.the-variants.{NoneNear, NoCodeword, NoneWithMarks, Shortening, InterleavingDepth}
 use Rattle.document.specs.declared.types.Record.{Record}
 use Rattle.document.specs.declared.types.Judged.{Judged}
 use Rattle.document.specs.declared.types.Judged.the-variants.{Accepted, Refused as NotAccepted}
@@ -67,6 +67,7 @@ numberOf NoneNear = 13
 numberOf NoCodeword = 14
 numberOf NoneWithMarks = 15
 numberOf Shortening = 16
+numberOf InterleavingDepth = 17
 
 abbrev pub recordAs : Record → List ℕ
 recordAs r = r .n ∷ r .k ∷ r .s ∷ r .working ∷ r .d ∷ r .t ∷ r .terms ∷ []

@@ -10,5 +10,6 @@ pub mod OtherTest
 pub mod Entry
 pub mod Marked
 pub mod Shortened
+pub mod Block
 pub mod Card
 pub mod Short

@@ -8,6 +8,8 @@
 --   decodeMarkedOf sheet word marks zeros ones      answer, and the bytes of both trial buffers
 --   refusalsToShorten sheet m      1 to 10, and then 16
 --   encodeShortenedOf sheet m message out, readShortenedOf sheet m word out, decodeShortenedOf sheet m word out      answer, and bytes
+--   refusalsToInterleave sheet m      1 to 10, and then 17
+--   decodeBlockOf sheet m block out verdicts      answer, and the bytes of the output and of the verdicts
 --   listing sheet, cardOf sheet out      the listing, and the entry that writes it
 use mathlib.Core.List.{List, _++_}
 use Prim.Native.Nat.{ℕ, _+_, _*_}
@@ -18,6 +20,7 @@ use Rattle.document.specs.Judge.{judgeConditions, judgeEntry}
 use Rattle.document.specs.Entry.{encodeEntry, readEntry, decodeEntry}
 use Rattle.document.specs.Marked.{markedEntry}
 use Rattle.document.specs.Shortened.{shorteningConditions, encodeShortenedEntry, readShortenedEntry, decodeShortenedEntry}
+use Rattle.document.specs.Block.{depthConditions, blockEntry}
 use Rattle.document.specs.Card.{listingOf, cardEntry}
 
 abbrev pub byteAt : List ℕ → ℕ → ℕ
@@ -108,6 +111,13 @@ readShortenedOf sheet m word out = readShortenedEntry (refusalsToShorten sheet m
 
 abbrev pub decodeShortenedOf : List ℕ → ℕ → List ℕ → List ℕ → Answer × List ℕ
 decodeShortenedOf sheet m word out = decodeShortenedEntry (refusalsToShorten sheet m) m (stated sheet) word out
+
+-- 2026-07: "A block carries m words"; "refusal 17, after the sheet's and before 11"
+abbrev pub refusalsToInterleave : List ℕ → ℕ → Conditions
+refusalsToInterleave sheet m = refusalsOf sheet ++ depthConditions m
+
+abbrev pub decodeBlockOf : List ℕ → ℕ → List ℕ → List ℕ → List ℕ → Answer × (List ℕ × List ℕ)
+decodeBlockOf sheet m block out verdicts = blockEntry (refusalsToInterleave sheet m) m (stated sheet) block out verdicts
 
 abbrev pub listing : List ℕ → List ℕ
 listing sheet = listingOf (refusalsOf sheet) (stated sheet)

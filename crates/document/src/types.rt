@@ -18,6 +18,7 @@ pub enum Refusal {
     NoCodeword,
     NoneWithMarks,
     Shortening,
+    InterleavingDepth,
 }
 
 // The record made of an accepted sheet: d, t and terms are those of its working certificate.
@@ -36,8 +37,7 @@ pub enum Judged {
     Refused(Refusal),
 }
 
-// What the entries with one lent buffer return: a number (of changed places for decoding, the listing's length for a card, else 0),
-// or a refusal.
+// What the other entries return: a number (of changed places for decoding a word, the listing's length for a card, else 0), or a refusal.
 pub enum Reply {
     Done(usize),
     Refused(Refusal),

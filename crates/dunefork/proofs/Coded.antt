@@ -2,7 +2,7 @@
 --
 --   replied            a reply that is one of its cases
 --   coded-refused      a refusal's code is minus its number
---   encode-done, read-done, encode-short-done, read-short-done      what encoding and reading out return is 0
+--   encode-done, read-done, encode-short-done, read-short-done, block-done      what encoding, reading out and decoding a block return is 0
 --   decode-few, decode-short-few, card-few      what decoding returns is at most n, and a listing has at most 1,024 bytes
 --   fits               so they are numbers of 32 bits
 --   counted-done       such a number is its own code
@@ -22,7 +22,7 @@ use mir.ValLaws.{toZ-pos}
 use Rattle.document.specs.declared.types.Refusal.{Refusal}
 use Rattle.document.specs.declared.types.Refusal.the-variants.{SheetLength, CodeLength, FieldDegree, Header, Representative, NoMessage, Range}
 use Rattle.document.specs.declared.types.Refusal.the-variants.{CommonFactor, Period, Term, BufferLength, SpareBit, NoneNear, NoCodeword}
-use Rattle.document.specs.declared.types.Refusal.the-variants.{NoneWithMarks, Shortening}
+use Rattle.document.specs.declared.types.Refusal.the-variants.{NoneWithMarks, Shortening, InterleavingDepth}
 use Rattle.document.specs.declared.types.Reply.{Reply}
 use Rattle.document.specs.declared.types.MarkedReply.{MarkedReply}
 use Rattle.document.specs.Answer.{Answer, returned, refused, numberOf, repliedAs, markedAs, settleIn, settle}
@@ -33,7 +33,8 @@ use Rattle.document.specs.Entry.{encodeEntry, readEntry, wordOf, decodedWord, d
 use Rattle.document.specs.Marked.{unmarkedChanged, markedWord, tried, trialShown, markedEntry}
 use Rattle.document.specs.Shortened.{sentWordOf, decodedShortened, encodeShortenedEntry, readShortenedEntry, decodeShortenedEntry}
 use Rattle.document.specs.Short.{stated, refusalsOf, encodeOf, readOf, decodeOf, encodeShortenedOf, readShortenedOf, decodeShortenedOf, decodeMarkedOf}
-use Rattle.document.specs.Short.{listing, cardOf}
+use Rattle.document.specs.Block.{blockEntry}
+use Rattle.document.specs.Short.{decodeBlockOf, listing, cardOf}
 use Rattle.document.proofs.Marking.{unmarked-le}
 use Rattle.field.specs.Mask.{_⊕_}
 use Rattle.field.proofs.Xor.{digit-lt}
@@ -66,28 +67,30 @@ kept NoneNear = refl
 kept NoCodeword = refl
 kept NoneWithMarks = refl
 kept Shortening = refl
+kept InterleavingDepth = refl
 
 -- the reply is one of its cases
-pub replied : {r q : Reply} {o : List ℕ} {a : Answer × List ℕ} → r ≡ q → (repliedAs r, o) ≡ a → (repliedAs q, o) ≡ a
+pub replied : {B : Type 0} {r q : Reply} {o : B} {a : Answer × B} → r ≡ q → (repliedAs r, o) ≡ a → (repliedAs q, o) ≡ a
 replied {o = o} e f = sym (ap (λ (p : Reply). (repliedAs p, o)) e) ∙ f
 
-pub coded-refused : (q : Refusal) {x : ℤ} {o : List ℕ} {a : Answer × List ℕ} → x ≡ negℤ (pos (numberOf q))
+pub coded-refused : {B : Type 0} (q : Refusal) {x : ℤ} {o : B} {a : Answer × B} → x ≡ negℤ (pos (numberOf q))
     → (refused (numberOf q), o) ≡ a → (toZ w32 (ofZ w32 x), o) ≡ codedAs a
-coded-refused q {x} {o} f e = ap (λ (z : ℤ). (z, o)) (ap (λ (z : ℤ). toZ w32 (ofZ w32 z)) f ∙ kept q ∙ sym (minus (numberOf q) (number-pos q))) ∙ ap codedAs e
+coded-refused q {x} {o} f e =
+    ap (λ (z : ℤ). (z, o)) (ap (λ (z : ℤ). toZ w32 (ofZ w32 z)) f ∙ kept q ∙ sym (minus (numberOf q) (number-pos q))) ∙ ap codedAs e
 
 -- the value returned is the definition's
-settled : (x n v : ℕ) (w old o : List ℕ) → (returned (n ∷ []), o) ≡ settle x (v ∷ []) w old → n ≡ v
+settled : {B : Type 0} (x n v : ℕ) (w old o : B) → (returned (n ∷ []), o) ≡ settleIn x (v ∷ []) w old → n ≡ v
 unfolding settleIn
-settled zero n v w old o e = ap (λ (a : Answer × List ℕ). getD (a .0 .values) 0 0) e
-settled (suc r) n v w old o e =
-    let z : 0 ≡ suc r = ap (λ (a : Answer × List ℕ). a .0 .number) e in absurd (omega arith)
+settled {B} zero n v w old o e = ap (λ (a : Answer × B). getD (a .0 .values) 0 0) e
+settled {B} (suc r) n v w old o e =
+    let z : 0 ≡ suc r = ap (λ (a : Answer × B). a .0 .number) e in absurd (omega arith)
 
 code-of : (n : ℕ) → codeFor 0 (n ∷ []) ≡ pos n
 unfolding codeFor
 code-of n = refl
 
-coded-done : {n : ℕ} {o : List ℕ} {a : Answer × List ℕ} → n ≡ 0 → (returned (n ∷ []), o) ≡ a → (pos 0, o) ≡ codedAs a
-coded-done {n} {o} z e = sym (ap (λ (x : ℤ). (x, o)) (code-of n ∙ ap pos z)) ∙ ap codedAs e
+coded-done : {B : Type 0} {n : ℕ} {o : B} {a : Answer × B} → n ≡ 0 → (returned (n ∷ []), o) ≡ a → (pos 0, o) ≡ codedAs a
+coded-done {B} {n} {o} z e = sym (ap (λ (x : ℤ). (x, o)) (code-of n ∙ ap pos z)) ∙ ap codedAs e
 
 pub encode-done : (sheet message out : List ℕ) {n : ℕ} {o : List ℕ} → (returned (n ∷ []), o) ≡ encodeOf sheet message out
     → (pos 0, o) ≡ codedAs (encodeOf sheet message out)
@@ -108,6 +111,11 @@ pub read-short-done : (sheet : List ℕ) (m : ℕ) (word out : List ℕ) {n : �
     → (pos 0, o) ≡ codedAs (readShortenedOf sheet m word out)
 unfolding readShortenedEntry
 read-short-done sheet m word out {n} e = coded-done (settled _ n 0 _ _ _ e) e
+
+pub block-done : (sheet : List ℕ) (m : ℕ) (block out verdicts : List ℕ) {n : ℕ} {o : List ℕ × List ℕ}
+    → (returned (n ∷ []), o) ≡ decodeBlockOf sheet m block out verdicts → (pos 0, o) ≡ codedAs (decodeBlockOf sheet m block out verdicts)
+unfolding blockEntry
+block-done sheet m block out verdicts {n} e = coded-done (settled _ n 0 _ _ _ e) e
 
 -- ---- decoding
 count-le : (n e : ℕ) → count n e ≤ n

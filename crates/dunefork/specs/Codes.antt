@@ -1,7 +1,7 @@
 -- Answers as C has them.
 --
 --   codeFor, returnCode a       one number for an answer: what is returned, or minus the refusal's number
---   codedAs p      the same beside the bytes of the lent buffer
+--   codedAs p      the same beside the bytes of the lent buffer, or of two
 --   markedCodeFor, markedCode a, markedCodedAs p      the same of decoding with marks: 2·e + trial, beside the bytes of both buffers
 use mathlib.Core.List.{List}
 use Prim.Native.Nat.{ℕ, zero, suc, _+_, _*_}
@@ -9,7 +9,7 @@ use lib.IntN.{ℤ, pos, negℤ}
 use lib.ListN.{getD}
 use Rattle.document.specs.Answer.{Answer}
 
--- The value that is returned (0 for encoding and reading out), where the answer's number is 0; else minus that number.
+-- The value that is returned (0 for encoding, reading out and decoding a block), where the answer's number is 0; else minus that number.
 unfoldable pub codeFor : ℕ → List ℕ → ℤ
 codeFor zero values = pos (getD values 0 0)
 codeFor (suc r) values = negℤ (pos (suc r))
@@ -17,7 +17,7 @@ codeFor (suc r) values = negℤ (pos (suc r))
 abbrev pub returnCode : Answer → ℤ
 returnCode a = codeFor (a .number) (a .values)
 
-abbrev pub codedAs : Answer × List ℕ → ℤ × List ℕ
+abbrev pub codedAs : {B : Type 0} → Answer × B → ℤ × B
 codedAs p = (returnCode (p .0), p .1)
 
 -- 2·e + trial: e is half of it, rounded down, and the trial is its lowest bit

@@ -25,5 +25,6 @@ pub fn refusal_code(r: Refusal) -> i32
         Refusal::NoCodeword => -14,
         Refusal::NoneWithMarks => -15,
         Refusal::Shortening => -16,
+        Refusal::InterleavingDepth => -17,
     }
 }

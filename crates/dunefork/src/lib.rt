@@ -4,7 +4,7 @@ pub mod codes;
 ghost use mathlib.Core.Path.{_≡_};
 ghost use lib.ListN.{length};
 ghost use Rattle.document.specs.Marked.{shownOf};
-ghost use Rattle.document.specs.Short.{encodeOf, readOf, decodeOf, encodeShortenedOf, readShortenedOf, decodeShortenedOf, decodeMarkedOf, cardOf};
+ghost use Rattle.document.specs.Short.{encodeOf, readOf, decodeOf, encodeShortenedOf, readShortenedOf, decodeShortenedOf, decodeMarkedOf, decodeBlockOf, cardOf};
 ghost use Rattle.dunefork.specs.Codes.{codedAs, markedCodedAs};
 use crate::codes::refusal_code;
 use document::types::MarkedReply;
@@ -115,6 +115,24 @@ pub extern "C" fn dunefork_shown_length<'a>(
 {
     let part = code::marked::shown(trial, n, zeros, ones);
     part.len()
+}
+
+// A block of m words: each corrected word into its own bytes of out, and a verdict for each.
+#[no_mangle]
+pub extern "C" fn dunefork_decode_block(
+    sheet: &[u8],
+    m: usize,
+    block: &[u8],
+    out: &mut [u8],
+    verdicts: &mut [u8],
+) -> i32
+    ensures { λ r. ⌜ (r, (now (out .exit), now (verdicts .exit))) ≡ codedAs (decodeBlockOf (now (sheet .entry)) m (now (block .entry)) (now (out .entry)) (now (verdicts .entry))) ⌝ }
+{
+    let reply = code::block::decode_block(sheet, m, block, out, verdicts);
+    match reply {
+        Reply::Done(_) => 0,
+        Reply::Refused(r) => refusal_code(r),
+    }
 }
 
 // The listing of a sheet, refused ones too, into out; its length.

@@ -23,7 +23,7 @@ use Rattle.document.specs.declared.types.Refusal.{Refusal}
 use Rattle.document.specs.declared.types.Refusal.the-variants.{SheetLength, CodeLength, FieldDegree, Header, Representative}
 use Rattle.document.specs.declared.types.Refusal.the-variants.{NoMessage}
 use Rattle.document.specs.declared.types.Refusal.the-variants.{Range, CommonFactor, Period, Term, BufferLength, SpareBit}
-use Rattle.document.specs.declared.types.Refusal.the-variants.{NoneNear, NoCodeword, NoneWithMarks, Shortening}
+use Rattle.document.specs.declared.types.Refusal.the-variants.{NoneNear, NoCodeword, NoneWithMarks, Shortening, InterleavingDepth}
 use Rattle.judging.specs.declared.types.Best.{Best}
 use Rattle.document.specs.Answer.{Answer, returned, refused, numberOf, Conditions, firstOf, settleIn, settle}
 use Rattle.document.specs.Sheet.{Certificate, Stated, certificateAt}
@@ -54,6 +54,7 @@ number-pos NoneNear = omega arith
 number-pos NoCodeword = omega arith
 number-pos NoneWithMarks = omega arith
 number-pos Shortening = omega arith
+number-pos InterleavingDepth = omega arith
 
 pub settle-refused : (r : ℕ) (v w o : List ℕ) → 0 < r → settle r v w o .0 ≡ refused r
 unfolding settleIn

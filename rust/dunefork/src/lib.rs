@@ -1,6 +1,6 @@
 //! Binary cyclic codes for a noisy wire, each code given by a *code sheet*: a few bytes that name the code and carry a
 //! certificate of its distance. This crate hands calls on to the proved static library `libdunefork.a`; it adds lengths,
-//! pointers and an error type, and takes one number apart (2 e + trial).
+//! pointers and an error type, takes one number apart (2 e + trial), and puts words into a block.
 //!
 //! ```
 //! // Sheet B of document 01: n = 15 places, k = 7 message places, any t = 2 wrong places are corrected.
@@ -34,6 +34,9 @@
 //!
 //! Where readings are small, [`encode_short`], [`read_short`] and [`decode_short`] leave out the top m places of message and word, so that
 //! fewer are sent: k - m and n - m.
+//!
+//! Where a soft starter wipes out a run of bits, m words are sent together as a block, one place of each in turn ([`block_put`]), and
+//! [`decode_block`] corrects them all, whole as long as at most m·t neighbouring bits are spoiled.
 //!
 //! Spare bits must be 0 in what is handed over, and are 0 in what comes back. n is byte 2 of the sheet; [`card`] tells n, k, d and t of
 //! a sheet, and docs/SHEETS.md how to write one.
@@ -70,8 +73,8 @@ pub const fn bytes(places: usize) -> usize {
     places / 8 + (places % 8 != 0) as usize
 }
 
-/// Why a call was refused. The numbers are those of documents 01 and 02; the conditions are tried in their order, 16 between 10 and 11,
-/// those of certificates (7 to 10) for one certificate after the other. Later versions may have more.
+/// Why a call was refused. The numbers are those of documents 01 and 02; the conditions are tried in their order, 16 and 17 between 10 and
+/// 11, those of certificates (7 to 10) for one certificate after the other. Later versions may have more.
 #[derive(Clone, Copy, Debug, PartialEq, Eq, PartialOrd, Ord, Hash)]
 #[repr(u8)]
 #[non_exhaustive]
@@ -98,7 +101,7 @@ pub enum Error {
     Term = 10,
     /// An input or an output buffer has not its exact length.
     BufferLength = 11,
-    /// A spare bit of an input is 1: a low one in the last byte of a word or of marks, a high one in a message's.
+    /// A spare bit of an input is 1: a low one in the last byte of a word, of marks or of a block, a high one in a message's.
     SpareBit = 12,
     /// Decoding: no codeword, of a shortened code no shortened one, lies within t places of the word.
     NoneNear = 13,
@@ -108,10 +111,12 @@ pub enum Error {
     NoneWithMarks = 15,
     /// A shortened code: m is 0, or not below k.
     Shortening = 16,
+    /// A block: m is not 2 to 16.
+    InterleavingDepth = 17,
 }
 
 impl Error {
-    /// The number that document 01 or 02 gives it, 1 to 16.
+    /// The number that document 01 or 02 gives it, 1 to 17.
     ///
     /// ```
     /// let error = dunefork::encode(&[], &[], &mut []).unwrap_err();
@@ -140,6 +145,7 @@ impl Error {
             14 => Error::NoCodeword,
             15 => Error::NoneWithMarks,
             16 => Error::Shortening,
+            17 => Error::InterleavingDepth,
             _ => return None,
         })
     }
@@ -166,6 +172,7 @@ impl fmt::Display for Error {
             Error::NoCodeword => "the word is no codeword",
             Error::NoneWithMarks => "no codeword differs from the word in so few unmarked places as its marks allow",
             Error::Shortening => "the number of places to leave out is 0 or not below k",
+            Error::InterleavingDepth => "the number of words of a block is not 2 to 16",
         };
         write!(f, "refusal {}: {}", self.number(), meaning)
     }
@@ -199,6 +206,17 @@ mod c {
         fn dunefork_encode_short(s: *const u8, sl: usize, m: usize, i: *const u8, il: usize, o: *mut u8, ol: usize) -> i32;
         fn dunefork_read_short(s: *const u8, sl: usize, m: usize, i: *const u8, il: usize, o: *mut u8, ol: usize) -> i32;
         fn dunefork_decode_short(s: *const u8, sl: usize, m: usize, i: *const u8, il: usize, o: *mut u8, ol: usize) -> i32;
+        fn dunefork_decode_block(
+            s: *const u8,
+            s_len: usize,
+            m: usize,
+            b: *const u8,
+            b_len: usize,
+            o: *mut u8,
+            o_len: usize,
+            v: *mut u8,
+            v_len: usize,
+        ) -> i32;
         fn dunefork_card(s: *const u8, s_len: usize, o: *mut u8, o_len: usize) -> i32;
     }
 
@@ -251,6 +269,30 @@ mod c {
     pub fn shown_length(trial: usize, n: usize, zeros: &[u8], ones: &[u8]) -> usize {
         // SAFETY: nothing is written.
         unsafe { dunefork_shown_length(trial, n, zeros.as_ptr(), zeros.len(), ones.as_ptr(), ones.len()) }
+    }
+
+    /// The answer for a block: 0.
+    pub fn decode_block(
+        sheet: &[u8],
+        m: usize,
+        block: &[u8],
+        out: &mut [u8],
+        verdicts: &mut [u8],
+    ) -> Result<usize, super::Error> {
+        // SAFETY: as above, with two buffers that are written, each borrowed exclusively.
+        answer(unsafe {
+            dunefork_decode_block(
+                sheet.as_ptr(),
+                sheet.len(),
+                m,
+                block.as_ptr(),
+                block.len(),
+                out.as_mut_ptr(),
+                out.len(),
+                verdicts.as_mut_ptr(),
+                verdicts.len(),
+            )
+        })
     }
 
     /// The listing of a sheet into `out`: its length.
@@ -473,6 +515,81 @@ pub fn read_short(sheet: &[u8], m: usize, word: &[u8], out: &mut [u8]) -> Result
 /// where no shortened codeword is within t places, also where another codeword is; `out` is then as it was.
 pub fn decode_short(sheet: &[u8], m: usize, word: &[u8], out: &mut [u8]) -> Result<usize, Error> {
     c::call_short(c::DECODE_SHORT, sheet, m, word, out)
+}
+
+/// Corrects the m words of a block: bit j·m + i of the block is place j of word i, for i below m and j below n, and bit p has weight
+/// 2^(7 - p mod 8) in byte p div 8. Where a codeword is within t places of word i, it goes into the word's bytes of `out`, and
+/// `verdicts[i]` is the number of places in which the two differ, 0 to t. There is never more than one. Where there is none,
+/// `verdicts[i]` is 255 and the word's bytes of `out` are as they were; the other words are corrected all the same.
+///
+/// `block` has exactly `bytes(n * m)` bytes, and its spare bits, from n·m on, are 0; `out` has exactly `m * bytes(n)`, the words one
+/// after the other in word layout, and `verdicts` exactly m. m is 2 to 16.
+///
+/// A block of codewords of which at most m·t neighbouring bits are spoiled, none of them spare, always comes back whole: every word is
+/// the one sent, and its verdict the number of its wrong places. There is no call that encodes a block: [`encode`] the words one by
+/// one, and [`block_put`] each into the block. What [`decode`] says of more than t wrong places holds of each word.
+///
+/// ```
+/// // Sheet B of document 01: n = 15, k = 7, t = 2. One letter to a word, and m = 8 words: a run of 16 bits is put right.
+/// const SHEET: [u8; 20] = [20, 0, 15, 2, 10, 0, 1, 0, 12, 0, 1, 3, 1, 1, 3, 0, 1, 0, 4, 0];
+///
+/// let mut block = [0; dunefork::bytes(15 * 8)];
+/// for (i, letter) in b"Dunefork".iter().enumerate() {
+///     let mut word = [0; dunefork::bytes(15)];
+///     dunefork::encode(&SHEET, &[*letter], &mut word)?;
+///     dunefork::block_put(15, 8, i, &word, &mut block);
+/// }
+///
+/// block[4] ^= 0x07; // the wire spoils bits 37 to 52
+/// block[5] ^= 0xff;
+/// block[6] ^= 0xf8;
+/// let (mut out, mut verdicts) = ([0; 8 * dunefork::bytes(15)], [0; 8]);
+/// dunefork::decode_block(&SHEET, 8, &block, &mut out, &mut verdicts)?;
+/// assert_eq!(verdicts, [2; 8]);
+///
+/// let mut text = [0; 8];
+/// for (word, letter) in out.chunks(dunefork::bytes(15)).zip(text.chunks_mut(1)) {
+///     dunefork::read(&SHEET, word, letter)?;
+/// }
+/// assert_eq!(&text, b"Dunefork");
+/// # Ok::<(), dunefork::Error>(())
+/// ```
+///
+/// # Errors
+///
+/// Refusals 1 to 12, and [`Error::InterleavingDepth`], after those of the sheet, exactly where m is not 2 to 16; `out` and `verdicts`
+/// are then both as they were. [`Error::NoneNear`] is none of them: a verdict of 255 says that of a word.
+pub fn decode_block(sheet: &[u8], m: usize, block: &[u8], out: &mut [u8], verdicts: &mut [u8]) -> Result<(), Error> {
+    c::decode_block(sheet, m, block, out, verdicts).map(|_| ())
+}
+
+/// Puts a word of n places into a block of m words, as its word i: bit j·m + i of the block becomes place j of the word, for each j
+/// below n. All other bits of the block, the spare ones too, are as they were, so a block is all 0 at first. This is plain Rust and no
+/// part of what is proved.
+///
+/// ```
+/// let mut block = [0; dunefork::bytes(7 * 3)];
+/// dunefork::block_put(7, 3, 0, &[0b1111_1110], &mut block);
+/// dunefork::block_put(7, 3, 1, &[0b1000_0010], &mut block);
+/// assert_eq!(block, [0b110_100_10, 0b0_100_100_1, 0b00_110_000]); // places 0 to 6 of words 0 to 2, then three spare bits
+/// ```
+///
+/// # Panics
+///
+/// If i is not below m, `word` has fewer than `bytes(n)` bytes, or `block` fewer than `bytes(n * m)`; the block is then as it was.
+pub fn block_put(n: usize, m: usize, i: usize, word: &[u8], block: &mut [u8]) {
+    assert!(i < m, "word {i} of a block of {m} words");
+    assert!(word.len() >= bytes(n), "a word of {n} places has {} bytes", word.len());
+    let bits = n.checked_mul(m);
+    assert!(
+        bits.map_or(false, |bits| block.len() >= bytes(bits)),
+        "a block of {m} words of {n} places has {} bytes",
+        block.len()
+    );
+    for j in 0..n {
+        let (p, place) = (j * m + i, word[j / 8] >> (7 - j % 8) & 1);
+        block[p / 8] = block[p / 8] & !(0x80 >> (p % 8)) | place << (7 - p % 8);
+    }
 }
 
 /// Tells what a sheet amounts to: its listing, the text of the program `linkcard`, written into `out`. The lines are `code N K S`, S

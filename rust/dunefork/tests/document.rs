@@ -391,14 +391,15 @@ fn read_back() {
 
 #[test]
 fn numbers() {
-    for number in 1..=16 {
+    for number in 1..=17 {
         let error = Error::from_number(number).unwrap();
         assert_eq!(error.number(), number);
         assert!(error.to_string().starts_with(&format!("refusal {number}: ")));
     }
     assert_eq!(Error::from_number(0), None);
-    assert_eq!(Error::from_number(17), None);
+    assert_eq!(Error::from_number(18), None);
     assert_eq!(Error::Shortening.number(), 16);
+    assert_eq!(Error::InterleavingDepth.number(), 17);
     assert_eq!(Error::NoneNear.to_string(), "refusal 13: no codeword lies within t places of the word");
 }
 

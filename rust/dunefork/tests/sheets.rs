@@ -1,6 +1,9 @@
 //! Every sheet of the repository's folder sheets/: messages come back after 0 to t wrong places, and after e wrong and r marked ones with
-//! 2·e + r up to d - 1, as its file states d and t; and after 0 to t wrong places of every shortened code.
-use dunefork::{bytes, decode, decode_marked, decode_short, encode, encode_short, read, read_short, Error};
+//! 2·e + r up to d - 1, as its file states d and t; after 0 to t wrong places of every shortened code; and after m·t neighbouring bits of
+//! a block of m words.
+use dunefork::{
+    block_put, bytes, decode, decode_block, decode_marked, decode_short, encode, encode_short, read, read_short, Error,
+};
 use std::path::Path;
 
 struct Sheet {
@@ -185,6 +188,35 @@ fn words_near_a_codeword_that_is_no_shortened_one() {
             let mut short = vec![0xaa; bytes(places)];
             assert_eq!(decode_short(&sheet.bytes, m, &low, &mut short), Err(Error::NoneNear), "{}, m = {m}", sheet.name);
             assert_eq!(short, vec![0xaa; bytes(places)]);
+        }
+    }
+}
+
+#[test]
+fn block_round_trips() {
+    for sheet in sheets() {
+        let mut draw = Draw(5);
+        for m in 2..=16 {
+            let (all, most) = (sheet.n * m, sheet.t * m);
+            for (from, length) in
+                [(0, most), (all - most, most), (draw.below(all - most + 1), most), (draw.below(all - most + 1), most / 2)]
+            {
+                let (mut block, mut sent) = (vec![0; bytes(all)], Vec::new());
+                for i in 0..m {
+                    let mut word = vec![0; bytes(sheet.n)];
+                    encode(&sheet.bytes, &draw.message(sheet.k), &mut word).unwrap();
+                    block_put(sheet.n, m, i, &word, &mut block);
+                    sent.extend(word);
+                }
+                let mut wrong = vec![0; m];
+                for bit in from..from + length {
+                    block[bit / 8] ^= 1 << (7 - bit % 8);
+                    wrong[bit % m] += 1;
+                }
+                let (mut out, mut verdicts) = (vec![0xaa; sent.len()], vec![0xaa; m]);
+                assert_eq!(decode_block(&sheet.bytes, m, &block, &mut out, &mut verdicts), Ok(()), "{}, m = {m}", sheet.name);
+                assert_eq!((out, verdicts), (sent, wrong), "{}, m = {m}", sheet.name);
+            }
         }
     }
 }

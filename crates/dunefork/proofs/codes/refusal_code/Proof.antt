@@ -57,6 +57,9 @@ enum-told-15 c = search needs
 enum-told-16 : tie.Need-enum-told-16
 enum-told-16 c = search needs
 
+enum-told-17 : tie.Need-enum-told-17
+enum-told-17 c = search needs
+
 returns : tie.Need-returns
 returns c = sym (ap (λ (q : Refusal). negℤ (pos (numberOf q))) (c .enum-told .given .1))
 
@@ -105,6 +108,9 @@ returns-15 c = sym (ap (λ (q : Refusal). negℤ (pos (numberOf q))) (c .enum-to
 returns-16 : tie.Need-returns-16
 returns-16 c = sym (ap (λ (q : Refusal). negℤ (pos (numberOf q))) (c .enum-told16 .given .1))
 
+returns-17 : tie.Need-returns-17
+returns-17 c = sym (ap (λ (q : Refusal). negℤ (pos (numberOf q))) (c .enum-told17 .given .1))
+
 pub refusal-code-spec : {M : Type 1} → statement M
 refusal-code-spec =
     tie.close
@@ -125,6 +131,7 @@ refusal-code-spec =
     enum-told-14
     enum-told-15
     enum-told-16
+    enum-told-17
     returns
     returns-2
     returns-3
@@ -140,4 +147,5 @@ refusal-code-spec =
     returns-13
     returns-14
     returns-15
-    returns-16)
+    returns-16
+    returns-17)

@@ -3,11 +3,12 @@
  * Each line of standard input is a code: `HEX K T WORDS WEIGHT ..`, that is the sheet's bytes, k, t, how many words to draw for
  * each weight, and the weights: numbers of errors, or -1 for words drawn with no codeword in mind. After them may stand
  * `marked ERRORS MARKS ..`: pairs of numbers of errors and of marked places beside these, for words to decode with marks; and then
- * `short M ..`, numbers of places to shorten the code by. The peers have the words of the first line. Written are `LINE WHO WHAT WEIGHT
- * NANOSECONDS`, the processor's time for one call: the mean over the words of a weight, the least of the rounds, WHAT being `marked-MARKS`
- * where there are marks to look at, and `encode-short-M`, `read-short-M` or `decode-short-M` for a shortened code; and counts of words,
- * `LINE ours refused WEIGHT COUNT` and `LINE WHO wrong WEIGHT COUNT`, a peer's wrong answers. In each round every code, weight and
- * decoder has its turn, so that a slow moment of the machine hits all.
+ * `short M ..`, numbers of places to shorten the code by, and `block M ..`, numbers of words in a block. The peers have the words of the
+ * first line. Written are `LINE WHO WHAT WEIGHT NANOSECONDS`, the processor's time for one call: the mean over the words of a weight, the
+ * least of the rounds, WHAT being `marked-MARKS` where there are marks to look at, `encode-short-M`, `read-short-M` or `decode-short-M` for
+ * a shortened code, and `block-M` for a block, with `singles-M` for M calls that decode its words one by one; and counts of words, `LINE
+ * ours refused WEIGHT COUNT` and `LINE WHO wrong WEIGHT COUNT`, a peer's wrong answers. In each round every code, weight and decoder has
+ * its turn, so that a slow moment of the machine hits all.
  *
  * Every answer is held to the codeword that was sent, after the time was taken. A wrong one ends the run, but for a peer's with
  * more than t errors: those are counted. */
@@ -22,6 +23,8 @@
 #define WEIGHTS 16
 #define KINDS 8
 #define SHORTENINGS 8
+#define DEPTHS 4
+#define BLOCK_WORDS 16
 #define LEAST_SECONDS 0.0003 /* a batch that takes less is repeated */
 
 /* What was sent, what arrived and what came out. */
@@ -51,6 +54,21 @@ struct shortening {
     double encode, read, decode[2];
 };
 
+/* A block of words, and what came out. */
+struct block {
+    uint8_t bits[BLOCK_WORDS * DUNEFORK_WORD_MAX], out[BLOCK_WORDS * DUNEFORK_WORD_MAX], verdicts[BLOCK_WORDS];
+    int32_t reply;
+};
+
+/* Blocks of m words, of no errors in each and of t, and their words. */
+struct depth {
+    int m;
+    size_t count;
+    struct block *blocks[2];
+    struct word *words[2];
+    double decode[2], singles[2];
+};
+
 static const struct peer *const peers[] = {
 #ifdef WITH_LINUX
     &linux_peer,
@@ -68,9 +86,10 @@ struct code {
     int n, k, t, weights, weight[WEIGHTS];
     struct word *words[WEIGHTS];
     double judge, encode, read, decode[WEIGHTS], peer_encode[PEERS], peer_decode[PEERS][WEIGHTS];
-    int refused[WEIGHTS], wrong[PEERS][WEIGHTS], kinds, shortenings;
+    int refused[WEIGHTS], wrong[PEERS][WEIGHTS], kinds, shortenings, depths;
     struct kind kind[KINDS];
     struct shortening shortening[SHORTENINGS];
+    struct depth depth[DEPTHS];
 };
 
 static struct code codes[CODES];
@@ -80,6 +99,8 @@ static struct code *c;
 static struct word *w;
 static struct marked_word *marked;
 static struct shortening *shortened;
+static struct depth *interleaved;
+static struct block *blocks;
 
 static void fail(const char *who, const char *what, int weight) {
     fprintf(stderr, "bench: %s: %s (length %d, %d errors)\n", who, what, c ? c->n : 0, weight);
@@ -181,6 +202,25 @@ static void draw_shortenings(void) {
     }
 }
 
+static void draw_depths(void) {
+    for (struct depth *d = c->depth; d < c->depth + c->depths; d++) {
+        size_t m = (size_t)d->m;
+        if (d->m < 2 || m > BLOCK_WORDS || m > c->count)
+            fail("input", "no number of words in a block", d->m);
+        d->count = c->count / m;
+        for (int j = 0; j < 2; j++) {
+            d->blocks[j] = calloc(d->count, sizeof *d->blocks[j]);
+            d->words[j] = calloc(d->count * m, sizeof *d->words[j]);
+            if (!d->blocks[j] || !d->words[j])
+                fail("input", "no memory", 0);
+            for (size_t i = 0; i < d->count * m; i++) {
+                draw(&d->words[j][i], j ? c->t : 0);
+                dunefork_block_put((size_t)c->n, m, i % m, d->words[j][i].received, d->blocks[j][i / m].bits);
+            }
+        }
+    }
+}
+
 static int differing(const uint8_t *a, const uint8_t *b) {
     int places = 0;
     for (size_t i = 0; i < c->word_len; i++)
@@ -207,19 +247,24 @@ static double seconds(void) {
     return (double)now.tv_sec + (double)now.tv_nsec * 1e-9;
 }
 
-/* Calls f for all words, and keeps the time of one call if it is the least. */
-static void keep_least(double *least, void (*f)(size_t slot)) {
+/* Calls f for so many slots, and keeps the time of one call if it is the least. */
+static void keep_least_of(size_t count, double *least, void (*f)(size_t slot)) {
     double start = seconds(), spent;
     int passes = 0;
     do {
-        for (size_t i = 0; i < c->count; i++)
+        for (size_t i = 0; i < count; i++)
             f(i);
         passes++;
         spent = seconds() - start;
     } while (spent < LEAST_SECONDS);
-    double one = spent / passes / (double)c->count;
+    double one = spent / passes / (double)count;
     if (*least == 0 || one < *least)
         *least = one;
+}
+
+/* For all words. */
+static void keep_least(double *least, void (*f)(size_t slot)) {
+    keep_least_of(c->count, least, f);
 }
 
 /* ---- ours */
@@ -332,6 +377,47 @@ static void time_our_shortened(struct shortening *s) {
 }
 #endif
 
+/* Archives from before 2026-07 have no such entry. */
+#ifdef WITH_BLOCK
+static void our_decode_block(size_t i) {
+    struct block *x = &blocks[i];
+    size_t m = (size_t)interleaved->m;
+    x->reply = dunefork_decode_block(c->sheet, c->sheet_len, m, x->bits, DUNEFORK_BYTES((size_t)c->n * m), x->out, m * c->word_len,
+                                     x->verdicts, m);
+}
+
+/* The words of a block, one by one. */
+static void our_singles(size_t i) {
+    size_t m = (size_t)interleaved->m;
+    for (size_t j = i * m; j < (i + 1) * m; j++)
+        our_decode(j);
+}
+
+static void time_our_blocks(struct depth *d) {
+    interleaved = d;
+    for (int j = 0; j < 2; j++) {
+        size_t m = (size_t)d->m;
+        int weight = j ? c->t : 0;
+        blocks = d->blocks[j];
+        w = d->words[j];
+        keep_least_of(d->count, &d->decode[j], our_decode_block);
+        keep_least_of(d->count, &d->singles[j], our_singles);
+        for (size_t i = 0; i < d->count * m; i++) {
+            const struct block *x = &blocks[i / m];
+            if (x->reply != 0 || x->verdicts[i % m] != weight || memcmp(x->out + i % m * c->word_len, w[i].codeword, c->word_len) != 0)
+                fail("ours", "a word of a block is decoded wrongly", weight);
+            if (!right(&w[i], weight))
+                fail("ours", "a word is decoded wrongly", weight);
+        }
+    }
+}
+#else
+static void time_our_blocks(struct depth *d) {
+    interleaved = d;
+    blocks = d->blocks[0];
+}
+#endif
+
 /* ---- peers */
 
 /* A peer's answer is held to ours, which was found right just before. */
@@ -373,6 +459,8 @@ static void one_round(int with_peers) {
         time_our_marked(&c->kind[j]);
     for (int j = 0; j < c->shortenings; j++)
         time_our_shortened(&c->shortening[j]);
+    for (int j = 0; j < c->depths; j++)
+        time_our_blocks(&c->depth[j]);
     w = c->words[0];
     time_our_rest();
     for (size_t p = 0; with_peers && peers[p]; p++)
@@ -400,6 +488,11 @@ static void tell(int line) {
             printf("%d ours read-short-%d 0 %.1f\n", line, s->m, s->read * 1e9);
             printf("%d ours decode-short-%d 0 %.1f\n", line, s->m, s->decode[0] * 1e9);
             printf("%d ours decode-short-%d %d %.1f\n", line, s->m, c->t, s->decode[1] * 1e9);
+        }
+    for (const struct depth *d = c->depth; d < c->depth + c->depths; d++)
+        for (int j = 0; j < 2 && d->decode[j] > 0; j++) {
+            printf("%d ours block-%d %d %.1f\n", line, d->m, j ? c->t : 0, d->decode[j] * 1e9);
+            printf("%d ours singles-%d %d %.1f\n", line, d->m, j ? c->t : 0, d->singles[j] * 1e9);
         }
     for (size_t p = 0; line == 0 && peers[p]; p++) {
         told(line, peers[p]->name, "encode", 0, c->peer_encode[p]);
@@ -444,6 +537,11 @@ static int take_line(void) {
     for (at += taken; taken && c->shortenings < SHORTENINGS; at += taken, c->shortenings++)
         if (sscanf(at, "%d%n", &c->shortening[c->shortenings].m, &taken) != 1)
             break;
+    taken = 0;
+    sscanf(at, " block%n", &taken);
+    for (at += taken; taken && c->depths < DEPTHS; at += taken, c->depths++)
+        if (sscanf(at, "%d%n", &c->depth[c->depths].m, &taken) != 1)
+            break;
     return 1;
 }
 
@@ -454,11 +552,13 @@ int main(int argc, char **argv) {
             fail(peers[p]->name, "its code is another", 0);
     for (c = codes; lines < CODES && take_line(); c++)
         lines++;
-    /* after all others, which marks and shortenings do not change */
+    /* after all others, which marks, shortenings and blocks do not change */
     for (c = codes; c < codes + lines; c++)
         draw_kinds();
     for (c = codes; c < codes + lines; c++)
         draw_shortenings();
+    for (c = codes; c < codes + lines; c++)
+        draw_depths();
     for (int round = 0; round < rounds; round++)
         for (int line = 0; line < lines; line++) {
             c = &codes[line];

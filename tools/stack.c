@@ -2,9 +2,10 @@
  *
  *     stack ENTRY SHEET INPUT OUT_LEN MARKS M
  *
- * ENTRY is encode, read, decode, decode_marked, shown_length, encode_short, read_short, decode_short or card; SHEET, INPUT and MARKS are
- * hexadecimal digits, and M is the number of places by which a code is shortened. It writes what the entry returned and the number of bytes
- * from the stack pointer at the call, the return address included, to the deepest byte that was written. */
+ * ENTRY is encode, read, decode, decode_marked, shown_length, encode_short, read_short, decode_short, decode_block or card; SHEET, INPUT
+ * and MARKS are hexadecimal digits, and M is the number of places by which a code is shortened, or of words and verdicts of a block. It
+ * writes what the entry returned and the number of bytes from the stack pointer at the call, the return address included, to the deepest
+ * byte that was written. */
 #include "dunefork.h"
 #include <stdio.h>
 #include <stdlib.h>
@@ -13,6 +14,9 @@
 #define SPACE ((size_t)1 << 20)
 #define ARGUMENTS 10
 #define IN_REGISTERS 6
+/* m is below k when a code is shortened, so this is more than all; a block that is not refused has at most 16 words */
+#define M_MAX 127
+#define BLOCK_WORDS 17
 
 /* The entry called with the stack pointer at `top`: six arguments are in registers, the others on the stack from there up. An entry that
  * has fewer does not look at the rest. */
@@ -51,11 +55,11 @@ static size_t from_hex(const char *text, uint8_t *bytes, size_t most) {
 
 int main(int argc, char **argv) {
     static uint8_t text[DUNEFORK_CARD_BYTES];
-    uint8_t sheet[DUNEFORK_SHEET_MAX + 1], in[DUNEFORK_WORD_MAX + 1], marks[DUNEFORK_WORD_MAX + 1];
-    uint8_t out[DUNEFORK_WORD_MAX + 1] = {0}, ones[DUNEFORK_WORD_MAX + 1] = {0};
-    if (argc != 7 || (size_t)atoi(argv[4]) > sizeof out) return 2;
+    uint8_t sheet[DUNEFORK_SHEET_MAX + 1], in[BLOCK_WORDS * DUNEFORK_WORD_MAX], marks[DUNEFORK_WORD_MAX + 1];
+    uint8_t out[BLOCK_WORDS * DUNEFORK_WORD_MAX] = {0}, ones[sizeof out] = {0}, verdicts[M_MAX] = {0};
+    if (argc != 7 || (size_t)atoi(argv[4]) > sizeof out || (size_t)atoi(argv[6]) > sizeof verdicts) return 2;
     size_t s = (size_t)sheet, i = (size_t)in, m = (size_t)marks, z = (size_t)out, o = (size_t)ones, out_len = (size_t)atoi(argv[4]);
-    size_t s_len = from_hex(argv[2], sheet, sizeof sheet), i_len = from_hex(argv[3], in, sizeof in);
+    size_t s_len = from_hex(argv[2], sheet, sizeof sheet), i_len = from_hex(argv[3], in, sizeof in), v = (size_t)verdicts;
     size_t m_len = from_hex(argv[5], marks, sizeof marks), n = 8 * out_len, by = (size_t)atoi(argv[6]), deepest = 0;
     const struct entry entries[] = {
         {"encode", (void *)dunefork_encode, {s, s_len, i, i_len, z, out_len}},
@@ -66,6 +70,7 @@ int main(int argc, char **argv) {
         {"encode_short", (void *)dunefork_encode_short, {s, s_len, by, i, i_len, z, out_len}},
         {"read_short", (void *)dunefork_read_short, {s, s_len, by, i, i_len, z, out_len}},
         {"decode_short", (void *)dunefork_decode_short, {s, s_len, by, i, i_len, z, out_len}},
+        {"decode_block", (void *)dunefork_decode_block, {s, s_len, by, i, i_len, z, out_len, v, by}},
         {"card", (void *)dunefork_card, {s, s_len, (size_t)text, sizeof text}}};
     const struct entry *entry = entries, *end = entries + sizeof entries / sizeof *entries;
     while (entry < end && strcmp(argv[1], entry->name)) entry++;

@@ -82,7 +82,7 @@ pub deinterleaving-start : {m i : ℕ} {block word : List ℕ} → Deinterleavin
 deinterleaving-start = record { at = λ q h. absurd (omega arith) }
 
 -- where the bits of byte j start
-pub few-bits : (j m : ℕ) → j ≤ 15 → 8 * j * m ≤ 120 * m
+pub few-bits : (j m : ℕ) → j ≤ 127 → 8 * j * m ≤ 1016 * m
 few-bits j m h = mul-le-mul-right m (omega arith)
 
 -- place q of byte j is bit q mod 8 of those from 8·j·m + i on

@@ -19,7 +19,7 @@ fn block_bit(block: &[u8], p: usize) -> u8
 
 // Eight bits of a block, m apart, from bit p on; the first of them highest.
 fn eight_bits_apart(block: &[u8], p: usize, m: usize) -> usize
-    requires { ⌜ (p ≤ 65535) × (m ≤ 255) ⌝ }
+    requires { ⌜ (p ≤ 1000000) × (m ≤ 255) ⌝ }
     ensures { λ r. ⌜ EightApart (now (block .entry)) p m r ⌝ }
 {
     let mut eight: usize = 0;
@@ -33,7 +33,7 @@ fn eight_bits_apart(block: &[u8], p: usize, m: usize) -> usize
 
 // Word i of a block of m words into its bytes, eight places at a time.
 pub fn deinterleave_word(m: usize, i: usize, block: &[u8], word: &mut [u8])
-    requires { ⌜ (m ≤ 255) × (i ≤ 255) × (length (now word) ≤ 16) ⌝ }
+    requires { ⌜ (m ≤ 255) × (i ≤ 255) × (length (now word) ≤ 128) ⌝ }
     ensures { λ _. ⌜ Deinterleaved m i (now (block .entry)) (now (word .exit)) ⌝ }
 {
     let mut j: usize = 0;

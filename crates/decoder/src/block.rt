@@ -21,7 +21,7 @@ use sheet::types::Certificate;
 
 // The m words of a block, of `size` bytes each.
 fn deinterleave(m: usize, size: usize, block: &[u8], words: &mut [u8])
-    requires { ⌜ (m ≤ 16) × (size ≤ 16) × (length (now words) ≡ m * size) ⌝ }
+    requires { ⌜ (m ≤ 16) × (size ≤ 128) × (length (now words) ≡ m * size) ⌝ }
     ensures { λ _. ⌜ WordsDeinterleaved m size (now (block .entry)) (now (words .exit)) ⌝ }
 {
     let mut i: usize = 0;

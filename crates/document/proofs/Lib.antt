@@ -20,3 +20,4 @@ pub mod ApartIs
 pub mod Tested
 pub mod Cases
 pub mod ShortenedCases
+pub mod BlockCases

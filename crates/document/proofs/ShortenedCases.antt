@@ -1,13 +1,14 @@
 -- Shortened codes (2026-06): rows on sheets H and E that the definitions hold. They are said of the entries as they are defined; rule 3 is
 -- computed by what Tested.antt shows it to be.
 --
+--   tested-between                     an entry with conditions of a request between the sheet's and its own answers the same by that test
 --   ShortenedReplies, shortenedBy      the three entries, by the conditions of a sheet
 --   shortened-tested                   they answer the same by the test that can be computed
 --   shortened-hold                     the rows: each with the misreading that it catches
-use mathlib.Core.Path.{_≡_, refl, ap, ap₂, _∙_, fun-ext}
+use mathlib.Core.Path.{_≡_, refl, sym, ap, ap₂, _∙_, fun-ext}
 use mathlib.Core.List.{List, [], _∷_, _++_, append-assoc}
 use Prim.Native.Nat.{ℕ, _-_}
-use Rattle.document.specs.Answer.{Answer, Conditions, firstOf, settle}
+use Rattle.document.specs.Answer.{Answer, Conditions, firstOf, settleIn}
 use Rattle.document.specs.Layout.{wordWeight, messageWeight, maskOf, bytesOf}
 use Rattle.document.specs.Judge.{dimensionOf}
 use Rattle.document.specs.Shortened.{shorteningConditions, topZero, encodeShortenedConditions, encodedShortened, encodeShortenedEntry}
@@ -39,26 +40,24 @@ shortenedBy R = record {
 abbrev documented : ShortenedReplies
 documented = record { encode = encodeShortenedOf; read = readShortenedOf; decode = decodeShortenedOf }
 
-same : (sheet : List ℕ) (m : ℕ) (own : Conditions) (v w old : List ℕ)
-    → settle (firstOf ((refusalsOf sheet ++ shorteningConditions m (stated sheet)) ++ own)) v w old
-    ≡ settle (firstOf ((testedOf sheet ++ shorteningConditions m (stated sheet)) ++ own)) v w old
-same sheet m own v w old =
-    let c : Conditions = shorteningConditions m (stated sheet) in
-    ap (λ (r : ℕ). settle r v w old)
-    (ap firstOf (append-assoc (refusalsOf sheet) c own) ∙ tested-first sheet (c ++ own) ∙ ap firstOf (sym-assoc (testedOf sheet) c own))
-  where
-    sym-assoc : (a b c : Conditions) → a ++ (b ++ c) ≡ (a ++ b) ++ c
-    sym-assoc [] b c = refl
-    sym-assoc (y ∷ a) b c = ap (λ (l : Conditions). y ∷ l) (sym-assoc a b c)
+pub tested-between : {B : Type 0} (sheet : List ℕ) (between own : Conditions) (v : List ℕ) (w old : B)
+    → settleIn (firstOf ((refusalsOf sheet ++ between) ++ own)) v w old ≡ settleIn (firstOf ((testedOf sheet ++ between) ++ own)) v w old
+tested-between sheet between own v w old =
+    ap (λ (r : ℕ). settleIn r v w old)
+    (ap firstOf (append-assoc (refusalsOf sheet) between own) ∙ tested-first sheet (between ++ own)
+    ∙ ap firstOf (sym (append-assoc (testedOf sheet) between own)))
 
 shortened-tested : documented ≡ shortenedBy testedOf
 unfolding encodeShortenedEntry readShortenedEntry decodeShortenedEntry made
 shortened-tested =
     ap₂ (λ e r. made e r (documented .decode))
-    (fun-ext (λ sheet. fun-ext (λ m. fun-ext (λ message. fun-ext (λ out. same sheet m (encodeShortenedConditions m (stated sheet) message out) _ _ out)))))
-    (fun-ext (λ sheet. fun-ext (λ m. fun-ext (λ word. fun-ext (λ out. same sheet m (readShortenedConditions m (stated sheet) word out) _ _ out)))))
+    (fun-ext (λ sheet. fun-ext (λ m. fun-ext (λ message. fun-ext (λ out.
+    tested-between sheet (shorteningConditions m (stated sheet)) (encodeShortenedConditions m (stated sheet) message out) _ _ out)))))
+    (fun-ext (λ sheet. fun-ext (λ m. fun-ext (λ word. fun-ext (λ out.
+    tested-between sheet (shorteningConditions m (stated sheet)) (readShortenedConditions m (stated sheet) word out) _ _ out)))))
     ∙ ap (made (shortenedBy testedOf .encode) (shortenedBy testedOf .read))
-    (fun-ext (λ sheet. fun-ext (λ m. fun-ext (λ word. fun-ext (λ out. same sheet m (decodeShortenedConditions m (stated sheet) word out) _ _ out)))))
+    (fun-ext (λ sheet. fun-ext (λ m. fun-ext (λ word. fun-ext (λ out.
+    tested-between sheet (shorteningConditions m (stated sheet)) (decodeShortenedConditions m (stated sheet) word out) _ _ out)))))
 
 -- ---- the rows: words and messages as masks; the number, what is returned, and the buffer, which holds FF before
 module _ (E : ShortenedReplies) where

@@ -19,8 +19,9 @@
  * and memcpy. There is nothing to set up and nothing to free.
  *
  * Calls. Every call but dunefork_shown_length is handed the sheet's bytes and judges the sheet first, dunefork_card after the length
- * of `out`. Nothing is kept between calls: no heap, no global state. Calls from several threads need no lock, as long as no other
- * thread writes to a buffer that a call uses.
+ * of `out`. (dunefork_shown and dunefork_block_put are inline functions of this header, and no calls in this sense.) Nothing is kept
+ * between calls: no heap, no global state. Calls from several threads need no lock, as long as no other thread writes to a buffer that a
+ * call uses.
  *     Each buffer goes with its length in bytes, and nothing outside is read or written. A length must be exact, but for
  * dunefork_shown_length: an input, `out`, `zeros`, `ones` or `verdicts` that is too long is refused like one that is too short. A pointer
  * may be any address, also a null one, where its length is 0.
@@ -69,9 +70,9 @@
  *
  * Interleaved blocks. Where a soft starter wipes out a run of bits, m words of one sheet, 2 to 16, are sent together, one place of each in
  * turn: bit j m + i of the block is place j of word i. Bit p of a block is block[p / 8] >> (7 - p % 8) & 1, and the spare bits, from n m
- * on, are the low ones of the last byte. A run of neighbouring bits is then shared out among the words: where at most m t of them are
- * spoiled, each word has at most t wrong places. There is no call that encodes a block: encode its words one by one and put each into the
- * block, which is 0 at first. dunefork_decode_block takes m after the sheet, and corrects all words at once (examples/c/block.c has it in
+ * on, are the low ones of the last byte. A run of at most m t neighbouring bits, each of them wrong or right, then has at most t of each
+ * word. There is no call that encodes a block: encode its words one by one and put each into the block, which is 0 at first.
+ * dunefork_decode_block takes m after the sheet, and corrects all words at once (examples/c/block.c has it in
  * full). With m = 8 on the sheet above, a run of up to 16 bits:
  *
  *     uint8_t message[8][DUNEFORK_BYTES(7)] = {{0x44}, {0x75}}, word[DUNEFORK_BYTES(15)];
@@ -83,7 +84,7 @@
  *     }
  *     // .. the wire, which spoils up to 16 neighbouring bits of block ..
  *     dunefork_decode_block(sheet, sizeof sheet, 8, block, sizeof block, out, sizeof out, verdicts, sizeof verdicts);  // returns 0
- *     // word i is out[2 i] and out[2 i + 1], and had verdicts[i] wrong places; or verdicts[i] is 255, no codeword near
+ *     // word i is out[2 i] and out[2 i + 1], with verdicts[i] of its places changed; or verdicts[i] is 255, no codeword near
  *
  * The sheet. 16-bit numbers have their low byte first. The folder sheets/ has some; docs/SHEETS.md says how to write one.
  *     bytes 0-1  length of the whole sheet, 10 + R + 8 C
@@ -242,16 +243,18 @@ int32_t dunefork_decode_short(const uint8_t *sheet, size_t sheet_len, size_t m, 
  * verdicts[i] is the number of places in which the two differ, 0 to t. There is never more than one. Where there is none, verdicts[i] is
  * 255 and the word's bytes of out are as they were; the other words are corrected all the same.
  *     So a block of codewords of which at most m t neighbouring bits are spoiled, none of them spare, always comes back whole: every word
- * is the one sent, and its verdict the number of its wrong places. What dunefork_decode's comment says of more than t wrong places holds of
+ * is the one sent, and its verdict the number of its wrong places. The spoiled bits then all lie in a run of m t bits, any of which may
+ * be right. What dunefork_decode's comment says of more than t wrong places holds of
  * each word.
- *     Refused with DUNEFORK_BUFFER_LENGTH are a block, an out and verdicts of another length, with DUNEFORK_SPARE_BIT a block that has a 1
+ *     Refused with DUNEFORK_BUFFER_LENGTH are a block, an out or verdicts of another length, with DUNEFORK_SPARE_BIT a block that has a 1
  * from bit n m on. Returns 0, or a refusal: -1 to -12 or -17, and then out and verdicts are both as they were. */
 int32_t dunefork_decode_block(const uint8_t *sheet, size_t sheet_len, size_t m, const uint8_t *block, size_t block_len, uint8_t *out,
                               size_t out_len, uint8_t *verdicts, size_t verdicts_len);
 
 /* Puts a word of n places, DUNEFORK_BYTES(n) bytes, into a block of m words, DUNEFORK_BYTES(n * m) bytes, as its word i, i below m: bit
  * j m + i becomes place j of the word, for each j below n. All other bits, the spare ones too, are as they were, so a block is 0 at first.
- * It is plain C and no part of what is proved; nothing is checked. */
+ * It is plain C and no part of what is proved. There is no sheet, and nothing is checked: i is below m, the buffers have these lengths at
+ * least, and do not overlap. */
 static inline void dunefork_block_put(size_t n, size_t m, size_t i, const uint8_t *word, uint8_t *block) {
     for (size_t j = 0; j < n; j++) {
         size_t p = j * m + i;

@@ -2,6 +2,7 @@
 -- 11": it is 16 or 17.
 --
 --   Between r b P            such a condition: its number, its test, and what the test says
+--   none-front, none-back    none of two lists of turns holds
 --   between-answered         what an entry answers by the sheet's conditions, such a one and its own
 --   between-sheet            it refuses with the sheet's refusal, if it has one
 --   between-iff, later-iff   what the number of such a condition says, and a later one, whatever was handed over
@@ -65,9 +66,13 @@ own-le (c ∷ l) h = go (c .1) refl (own-le l (h .1))
     go true q rest = omega (arith, first-true c l q, h .0)
     go false q rest = omega (arith, first-false c l q)
 
-none-front : (s t : Turns) → NoneHolds (s ++ t) → NoneHolds s
+pub none-front : (s t : Turns) → NoneHolds (s ++ t) → NoneHolds s
 none-front [] t none = tt
 none-front (turn ∷ s) t none = (none .0, none-front s t (none .1))
+
+pub none-back : (s t : Turns) → NoneHolds (s ++ t) → NoneHolds t
+none-back [] t none = none
+none-back (turn ∷ s) t none = none-back s t (none .1)
 
 module _ (sheet : List ℕ) where
   abbrev x : Stated

@@ -9,6 +9,7 @@
 --   answered               a call that draws no refusal
 --   each-said, near-said, none-near-said, none-near-bytes      what it leaves: each word as decoding does, and its verdict
 --   whole-said             a block of codewords with a run of spoiled bits comes back whole
+--   right-call             the calls that draw no refusal are those; own-at: which bytes are a word's own
 use mathlib.Core.Path.{_≡_, refl, sym, ap, ap₂, _∙_, subst}
 use mathlib.Core.Logic.{_↔_, _⊎_, inl, inr}
 use mathlib.Core.Bool.{Bool, true, false, not, _||_, _&&_}
@@ -19,7 +20,7 @@ use native.Mathlib.Decide.{ℕ-discrete, decLt}
 use native.Mathlib.Omega.{arith}
 use lib.Dec.{eqb, leb, ltb}
 use lib.ListN.{length, getD, take, drop, length-append, length-drop}
-use lib.Seq.{take-all, drop-at, take-append-le, drop-append-le, ext-getD}
+use lib.Seq.{take-all, drop-at, take-append-le, drop-append-le, getD-take, getD-drop, ext-getD}
 use borrow.Author.Tests.{eq-eqb, leb-true, ltb-true, le-leb, lt-ltb, le-ltb}
 use Rattle.field.specs.Search.{least, upTo, total, bit}
 use Rattle.field.proofs.Search.{least-is, least-most, and-both, total-z, total-s, total-ext, total-le, total-most}
@@ -32,7 +33,7 @@ use Rattle.document.specs.Layout.{wordWeight, bytesFor, place, bytesOf, spare}
 use Rattle.document.specs.Sheet.{Stated}
 use Rattle.document.specs.Generator.{differences}
 use Rattle.document.specs.Entry.{wrongSize, radiusOf, CodewordOf, wordOf}
-use Rattle.document.specs.Block.{wrongDepth, blockWord, blockWordBytes, ownBytes, wordDecoded, verdictFor, verdictOf, blockOutput, blockVerdicts}
+use Rattle.document.specs.Block.{wrongDepth, blockWord, blockWordBytes, ownBytes, partDecoded, verdictFor, verdictOf, blockOutput, blockVerdicts}
 use Rattle.document.specs.Block.{blockConditions, blockEntry}
 use Rattle.document.specs.Short.{short, stated, refusalsOf, decodeOf, decodeBlockOf}
 use Rattle.document.proofs.Stated.{tabulated-at, tabulated-length, odd-to}
@@ -42,10 +43,16 @@ use Rattle.document.proofs.Settled.{entry-done, first-nil, size-right}
 use Rattle.document.proofs.Acceptance.{judge-number, quiet-of}
 use Rattle.certificate.proofs.Sheets as Sheets
 use Rattle.certificate.proofs.Decoding as Decoding
-use Rattle.codeword.proofs.Places.{word-weights, for-le, bytes-length, bytes-place, bytes-lt, mask-of-bytes}
+use Rattle.codeword.proofs.Places.{word-weights, place-lt, for-le, bytes-length, bytes-place, bytes-lt, mask-of-bytes}
 use Rattle.codeword.proofs.Interleaving.{block-word-lt, block-word-at}
 use Rattle.decoder.proofs.Parts.{part-long, within}
 use Rattle.code.specs.Published.{Places, Bytes, Word, BlockCall, RunSpoiled}
+use Rattle.code.specs.Turns.{NoneHolds}
+use Rattle.code.specs.Table.{WrongDepth, sheetTurns, interleavedTurns, blockOwn, blockTurns}
+use Rattle.code.proofs.InTurn.{same}
+use Rattle.code.proofs.Tried.{accepted-of}
+use Rattle.code.proofs.Refusing.{is-accepted}
+use Rattle.code.proofs.Between.{none-front, none-back, block-answered}
 use Rattle.code.proofs.Accepted.{conditions}
 use Rattle.code.proofs.RoundTrip as RoundTrip
 use Rattle.code.proofs.Entries.{decode-accepted, block-accepted}
@@ -237,7 +244,7 @@ module _ (sheet : List ℕ) (m : ℕ) (block out verdicts : List ℕ) (call : Bl
   quiet = quiet-of short sheet none-first
 
   right : wrongDepth m ≡ false
-  right = ap₂ _||_ (le-ltb m 2 (call .depth .0)) (le-ltb 16 m (call .depth .1))
+  right = ap₂ _||_ (le-ltb m 2 (call .depth .0)) (le-ltb 16 m (omega (arith, call .depth .1)))
 
   none-own : firstOf (blockConditions m x block out verdicts) ≡ 0
   unfolding blockConditions bytesFor
@@ -266,27 +273,27 @@ module _ (sheet : List ℕ) (m : ℕ) (block out verdicts : List ℕ) (call : Bl
         record { word-long = p .long; out-long = own-long; clear = p .clear }
 
     found : {c : ℕ} → CodewordOf x c → differences n (word i) c ≤ radiusOf x
-        → wordDecoded m x block out i ≡ (returned (differences n (word i) c ∷ []), bytesOf wordWeight n c)
-    unfolding wordDecoded
+        → partDecoded m x block out i ≡ (returned (differences n (word i) c ∷ []), bytesOf wordWeight n c)
+    unfolding partDecoded
     found {c} w =
         subst (λ (y : ℕ). differences n y c ≤ radiusOf x
-        → wordDecoded m x block out i ≡ (returned (differences n y c ∷ []), bytesOf wordWeight n c)) (word-bytes x m block i .2)
+        → partDecoded m x block out i ≡ (returned (differences n y c ∷ []), bytesOf wordWeight n c)) (word-bytes x m block i .2)
         (λ h. sym (Decoding.stated-found a silent (blockWordBytes n m block i) (ownBytes n i out) form w h))
 
     -- a codeword is within t places; or there is none, and the bytes are as they were
     either : ((c : ℕ) × CodewordOf x c × (differences n (word i) c ≤ radiusOf x))
-        ⊎ (((c : ℕ) → CodewordOf x c → radiusOf x < differences n (word i) c) × (wordDecoded m x block out i ≡ (refused 13, ownBytes n i out)))
-    unfolding wordDecoded
+        ⊎ (((c : ℕ) → CodewordOf x c → radiusOf x < differences n (word i) c) × (partDecoded m x block out i ≡ (refused 13, ownBytes n i out)))
+    unfolding partDecoded
     either =
         subst (λ (y : ℕ). ((c : ℕ) × CodewordOf x c × (differences n y c ≤ radiusOf x))
-        ⊎ (((c : ℕ) → CodewordOf x c → radiusOf x < differences n y c) × (wordDecoded m x block out i ≡ (refused 13, ownBytes n i out))))
+        ⊎ (((c : ℕ) → CodewordOf x c → radiusOf x < differences n y c) × (partDecoded m x block out i ≡ (refused 13, ownBytes n i out))))
         (word-bytes x m block i .2)
         (elim (Decoding.stated-either a silent (blockWordBytes n m block i) (ownBytes n i out) form) [
           | inl f ↦ inl (f .0, f .1, f .2)
           | inr f ↦ inr f
         ])
 
-    decoded-long : length (wordDecoded m x block out i .1) ≡ bytesFor n
+    decoded-long : length (partDecoded m x block out i .1) ≡ bytesFor n
     decoded-long =
         elim either [
           | inl f ↦ ap (λ (y : Answer × List ℕ). length (y .1)) (found (f .1) (f .2)) ∙ bytes-length wordWeight n (f .0)
@@ -298,31 +305,31 @@ module _ (sheet : List ℕ) (m : ℕ) (block out verdicts : List ℕ) (call : Bl
   answered = (
     ap (λ (y : Answer × (List ℕ × List ℕ)). y .0) reply-is,
     ap (λ (y : Answer × (List ℕ × List ℕ)). length (y .1 .0)) reply-is
-        ∙ rows-long (λ i. wordDecoded m x block out i .1) (bytesFor n) m decoded-long ∙ sym (call .out-long),
+        ∙ rows-long (λ i. partDecoded m x block out i .1) (bytesFor n) m decoded-long ∙ sym (call .out-long),
     ap (λ (y : Answer × (List ℕ × List ℕ)). length (y .1 .1)) reply-is
-        ∙ tabulated-length (λ i. verdictOf (wordDecoded m x block out i .0)) m,
+        ∙ tabulated-length (λ i. verdictOf (partDecoded m x block out i .0)) m,
   )
 
   -- ---- what is left of word i
   module _ (i : ℕ) (l : i < m) where
-    own-is : ownBytes n i (reply .1 .0) ≡ wordDecoded m x block out i .1
+    own-is : ownBytes n i (reply .1 .0) ≡ partDecoded m x block out i .1
     unfolding blockOutput
     own-is =
         ap (λ (y : Answer × (List ℕ × List ℕ)). ownBytes n i (y .1 .0)) reply-is
-        ∙ row-part (λ i. wordDecoded m x block out i .1) (bytesFor n) m decoded-long i l
+        ∙ row-part (λ i. partDecoded m x block out i .1) (bytesFor n) m decoded-long i l
 
-    verdict-is : getD (reply .1 .1) i 0 ≡ verdictOf (wordDecoded m x block out i .0)
+    verdict-is : getD (reply .1 .1) i 0 ≡ verdictOf (partDecoded m x block out i .0)
     unfolding blockVerdicts
     verdict-is =
         ap (λ (y : Answer × (List ℕ × List ℕ)). getD (y .1 .1) i 0) reply-is
-        ∙ tabulated-at (λ i. verdictOf (wordDecoded m x block out i .0)) m i 0 l
+        ∙ tabulated-at (λ i. verdictOf (partDecoded m x block out i .0)) m i 0 l
 
-    pub each-said : ownBytes n i (reply .1 .0) ≡ decodeOf sheet (blockWordBytes n m block i) (ownBytes n i out) .1
-    unfolding wordDecoded
+    pub each-said : (ownBytes n i (reply .1 .0) ≡ decodeOf sheet (blockWordBytes n m block i) (ownBytes n i out) .1)
+        × (getD (reply .1 .1) i 0 ≡ verdictOf (decodeOf sheet (blockWordBytes n m block i) (ownBytes n i out) .0))
+    unfolding partDecoded
     each-said =
-        own-is
-        ∙ ap (λ (y : Answer × List ℕ). y .1)
-        (decode-accepted (refusalsOf sheet) x (blockWordBytes n m block i) (ownBytes n i out) quiet)
+        let e = decode-accepted (refusalsOf sheet) x (blockWordBytes n m block i) (ownBytes n i out) quiet in
+        (own-is ∙ ap (λ (y : Answer × List ℕ). y .1) e, verdict-is ∙ ap (λ (y : Answer × List ℕ). verdictOf (y .0)) e)
 
     pub near-said : (c : ℕ) → CodewordOf x c → differences n (word i) c ≤ radiusOf x
         → (ownBytes n i (reply .1 .0) ≡ bytesOf wordWeight n c) × (getD (reply .1 .1) i 0 ≡ differences n (word i) c)
@@ -366,9 +373,43 @@ module _ (sheet : List ℕ) (m : ℕ) (block out verdicts : List ℕ) (call : Bl
   whole-said sent codewords start run h spoiled =
       reply-is
       ∙ ap₂ (λ (y z : List ℕ). (returned (0 ∷ []), (y, z)))
-      (rows-same (λ i. wordDecoded m x block out i .1) (blockWordBytes n m sent) m (λ i l. ap (λ (y : Answer × List ℕ). y .1) (comes i l)))
-      (values-same (λ i. verdictOf (wordDecoded m x block out i .0)) (λ i. differences n (word i) (blockWord n m sent i)) m
+      (rows-same (λ i. partDecoded m x block out i .1) (blockWordBytes n m sent) m (λ i l. ap (λ (y : Answer × List ℕ). y .1) (comes i l)))
+      (values-same (λ i. verdictOf (partDecoded m x block out i .0)) (λ i. differences n (word i) (blockWord n m sent i)) m
       (λ i l. ap (λ (y : Answer × List ℕ). verdictOf (y .0)) (comes i l)))
     where
-      comes : (i : ℕ) → i < m → wordDecoded m x block out i ≡ (returned (differences n (word i) (blockWord n m sent i) ∷ []), blockWordBytes n m sent i)
+      comes : (i : ℕ) → i < m → partDecoded m x block out i ≡ (returned (differences n (word i) (blockWord n m sent i) ∷ []), blockWordBytes n m sent i)
       comes i l = found i l (codewords i l) (spoiled-few m x sent block (radiusOf x) start run h spoiled i l)
+
+-- ---- which calls draw no refusal
+pub right-call : (sheet : List ℕ) (m : ℕ) (block out verdicts : List ℕ)
+    → (decodeBlockOf sheet m block out verdicts .0 .number ≡ 0) ↔ BlockCall sheet m block out verdicts
+right-call sheet m block out verdicts = (
+  λ e. called (block-answered sheet m block out verdicts .done .0 e),
+  λ call. ap (λ (y : Answer). y .number) (answered sheet m block out verdicts call .0),
+)
+  where
+    called : NoneHolds (blockTurns sheet m block out verdicts) → BlockCall sheet m block out verdicts
+    called none =
+        let front = none-front (interleavedTurns sheet m) (blockOwn m (stated sheet) block out verdicts) none in
+        let own = none-back (interleavedTurns sheet m) (blockOwn m (stated sheet) block out verdicts) none in
+        let depth = none-back (sheetTurns sheet) ((17, WrongDepth m) ∷ []) front .0 in
+        record {
+          accepted = is-accepted sheet (accepted-of sheet (none-front (sheetTurns sheet) ((17, WrongDepth m) ∷ []) front));
+          depth = (
+            elim (decLt m 2) [ yes l ↦ absurd (depth (inl l)) | no l ↦ omega arith ],
+            elim (decLt 16 m) [ yes l ↦ absurd (depth (inr l)) | no l ↦ omega arith ],
+          );
+          is-block = record {
+            long = same (own .0);
+            clear = λ p l h.
+                let two : place wordWeight block p < 2 = place-lt wordWeight block p in
+                elim (ℕ-discrete (place wordWeight block p) 1) [ yes q ↦ absurd (own .1 .1 .1 .0 (p, l, h, q)) | no q ↦ omega arith ];
+          };
+          out-long = same (own .1 .0);
+          verdicts-long = same (own .1 .1 .0);
+        }
+
+-- ---- the bytes that are a word's own
+pub own-at : (n i p : ℕ) (out : List ℕ) → p < (n + 7) / 8 → getD (ownBytes n i out) p 0 ≡ getD out (i * ((n + 7) / 8) + p) 0
+unfolding bytesFor
+own-at n i p out h = getD-take ((n + 7) / 8) (drop (i * ((n + 7) / 8)) out) p 0 h ∙ getD-drop (i * ((n + 7) / 8)) out p 0

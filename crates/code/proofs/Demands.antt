@@ -17,7 +17,7 @@
 -- A record for each demand and for each request, a field for each clause, under the clause's words. Each demand is for every list of bytes
 -- that may be a sheet; x is what it states. The words are in specs/Published.antt and specs/Table.antt, under the documents' sentences. That
 -- the field's masks are the smallest primitive ones is mask-least of field/proofs/Smallest.antt; examples, 13 with a buffer that was not 0
--- among them, are the tables of document/proofs/Cases.antt and ShortenedCases.antt.
+-- among them, are the tables of document/proofs/Cases.antt, ShortenedCases.antt and BlockCases.antt.
 use mathlib.Core.Path.{_≡_, refl}
 use mathlib.Core.Logic.{_≢_, _↔_, _⊎_}
 use mathlib.Core.Bool.{true, _&&_}
@@ -39,7 +39,7 @@ use Rattle.document.specs.OtherTest.{conditionsWith}
 use Rattle.document.specs.Entry.{CodewordOf, generatorOf, radiusOf, wordOf, changed}
 use Rattle.document.specs.Marked.{markedOnes, markedZeros, marksCount, unmarkedChanged, WithinMarks, trialWord, shownOf}
 use Rattle.document.specs.Shortened.{sentWordOf, sentMessageOf, ShortenedCodeword}
-use Rattle.document.specs.Block.{blockWord, blockWordBytes, ownBytes}
+use Rattle.document.specs.Block.{blockWord, blockWordBytes, ownBytes, verdictOf}
 use Rattle.document.specs.Card.{refusedLine, acceptedLines, certificateText, radiusText}
 use Rattle.document.specs.Short.{short, stated, refusalsOf, judgeOf, encodeOf, readOf, decodeOf, decodeMarkedOf, listing, cardOf}
 use Rattle.document.specs.Short.{encodeShortenedOf, readShortenedOf, decodeShortenedOf, decodeBlockOf}
@@ -415,15 +415,22 @@ module _ (sheet : List ℕ) where
     -- "A block carries m words", "spare bits 0": any m of n places
     pub carries : (m : ℕ) (words : ℕ → ℕ) → ((i : ℕ) → i < m → words i < 2 ^ x .n)
         → (block : List ℕ) × Places wordWeight (x .n * m) block × Bytes block × ((i : ℕ) → i < m → blockWord (x .n) m block i ≡ words i)
-    -- a call that draws no refusal answers 0; output and verdicts are as long as they were
+    -- the calls that draw no refusal are those with an accepted sheet, an m of 2 to 16, right lengths and no spare bit;
+    pub right-call : (m : ℕ) (block out verdicts : List ℕ)
+        → (decodeBlockOf sheet m block out verdicts .0 .number ≡ 0) ↔ BlockCall sheet m block out verdicts
+    -- such a call answers 0; output and verdicts are as long as they were
     pub answered : (m : ℕ) (block out verdicts : List ℕ) → BlockCall sheet m block out verdicts
         → (decodeBlockOf sheet m block out verdicts .0 ≡ returned (0 ∷ []))
         × (length (decodeBlockOf sheet m block out verdicts .1 .0) ≡ length out)
         × (length (decodeBlockOf sheet m block out verdicts .1 .1) ≡ m)
-    -- "Each corrected word goes into its own bytes of the lent output": they are as decoding leaves them
+    -- "The output is m words long, one after the other": byte p of word i's own bytes is byte i·(n/8 rounded up) + p
+    pub own-bytes : (i p : ℕ) (out : List ℕ) → p < (x .n + 7) / 8 → getD (ownBytes (x .n) i out) p 0 ≡ getD out (i * ((x .n + 7) / 8) + p) 0
+    -- "Each corrected word goes into its own bytes of the lent output": they are as decoding leaves them, and the verdict is of its answer
     pub each : (m : ℕ) (block out verdicts : List ℕ) → BlockCall sheet m block out verdicts → (i : ℕ) → i < m
-        → ownBytes (x .n) i (decodeBlockOf sheet m block out verdicts .1 .0)
-        ≡ decodeOf sheet (blockWordBytes (x .n) m block i) (ownBytes (x .n) i out) .1
+        → (ownBytes (x .n) i (decodeBlockOf sheet m block out verdicts .1 .0)
+        ≡ decodeOf sheet (blockWordBytes (x .n) m block i) (ownBytes (x .n) i out) .1)
+        × (getD (decodeBlockOf sheet m block out verdicts .1 .1) i 0
+        ≡ verdictOf (decodeOf sheet (blockWordBytes (x .n) m block i) (ownBytes (x .n) i out) .0))
     -- "A verdict byte for each word holds its changed places": where a codeword is within t places of word i, it is in the word's own bytes, and
     -- the verdict is the number of places in which they differ;
     pub near : (m : ℕ) (block out verdicts : List ℕ) → BlockCall sheet m block out verdicts → (i : ℕ) → i < m → (c : ℕ) → CodewordOf x c
@@ -623,7 +630,9 @@ request-07 sheet = record {
   word-places = Blocks.word-places (stated sheet .n);
   word-bytes = Blocks.word-bytes (stated sheet);
   carries = Blocks.carries (stated sheet .n);
+  right-call = Blocks.right-call sheet;
   answered = Blocks.answered sheet;
+  own-bytes = Blocks.own-at (stated sheet .n);
   each = Blocks.each-said sheet;
   near = Blocks.near-said sheet;
   none-near = Blocks.none-near-said sheet;

@@ -267,7 +267,7 @@ pub record ShortenedDecoded (m : ℕ) (x : Stated) (word : List ℕ) (reply : An
   pub others : (c : ℕ) → CodewordOf x c → c ≢ sentWordOf m x (reply .1) → radiusOf x < differences (x .n) (sentWordOf m x word) c
 
 -- ---- blocks of interleaved words (2026-07)
--- a call of decoding a block that draws no refusal
+-- a call of decoding a block that draws no refusal, exactly (`right-call` of Request07)
 pub record BlockCall (sheet : List ℕ) (m : ℕ) (block out verdicts : List ℕ) : Type 0 where
   pub accepted : IsAccepted sheet
   pub depth : (2 ≤ m) × (m ≤ 16)
@@ -275,8 +275,8 @@ pub record BlockCall (sheet : List ℕ) (m : ℕ) (block out verdicts : List ℕ
   pub out-long : length out ≡ m * ((stated sheet .n + 7) / 8)
   pub verdicts-long : length verdicts ≡ m
 
--- a block that was sent, and what was received: the bits are the same but for a run of neighbouring ones, "none spare". Those of the run may
--- each be wrong or right.
+-- a block that was sent, and what was received: the bits below n·m are the same but for a run of neighbouring ones, each of which may be wrong
+-- or right. That none spare is spoiled is `below`, and `is-block` of BlockCall.
 pub record RunSpoiled (m : ℕ) (x : Stated) (sent received : List ℕ) (start run : ℕ) : Type 0 where
   pub below : start + run ≤ x .n * m
   pub outside : (p : ℕ) → p < x .n * m → (p < start) ⊎ (start + run ≤ p) → place wordWeight received p ≡ place wordWeight sent p

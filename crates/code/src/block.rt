@@ -1,5 +1,5 @@
 // Decoding a block that carries m words, place j of word i being bit j·m + i: for each word the codeword within t places, or that there is
-// none. Of neighbouring bits that are spoiled each word then has its share alone.
+// none. Of m·t neighbouring bits at most t are of one word.
 ghost use mathlib.Core.Path.{_≡_};
 ghost use mathlib.Core.Bool.{_||_};
 ghost use lib.Dec.{ltb};

@@ -1,5 +1,5 @@
-// A word taken out of a block that carries m words: place j of word i is bit j·m + i of the block. Bits of a block lie in its bytes as
-// the places of a word do, the highest first, so eight neighbouring places of a word are eight bits of the block that are m apart.
+// A word taken out of a block that carries m words: place j of word i is bit j·m + i of the block, so eight neighbouring places of a word
+// are eight bits of the block that are m apart. Bits of a block lie in its bytes as the places of a word do, the highest first.
 ghost use mathlib.Core.Path.{_≡_};
 ghost use Prim.Native.Nat.{_<_, _≤_};
 ghost use lib.ListN.{length};

@@ -29,7 +29,7 @@ use Rattle.document.specs.Layout.{wordWeight, bytesFor, bytesOf, spare}
 use Rattle.document.specs.Sheet.{Stated}
 use Rattle.document.specs.Generator.{differences}
 use Rattle.document.specs.Entry.{wrongSize, wordOf, changed, decodeEntry}
-use Rattle.document.specs.Block.{blockPlaces, blockWord, blockWordBytes, ownBytes, wordDecoded, verdictFor, verdictOf, blockOutput, blockVerdicts}
+use Rattle.document.specs.Block.{blockPlaces, blockWord, blockWordBytes, ownBytes, partDecoded, verdictFor, verdictOf, blockOutput, blockVerdicts}
 use Rattle.document.specs.Block.{blockConditions, blockEntry}
 use Rattle.document.proofs.Chain.{silent, row-suc, first-true, first-false}
 use Rattle.document.proofs.Stated.{tabulated-at, tabulated-length}
@@ -41,7 +41,7 @@ use Rattle.codeword.specs.Interleaved.{Deinterleaved}
 use Rattle.codeword.proofs.Places.{bytes-length}
 use Rattle.codeword.proofs.Interleaving.{block-word-lt, word-deinterleaved}
 use Rattle.decoder.specs.Decode.{States, Decoded, verdictAs, part, Lined, DecodedEach}
-use Rattle.decoder.specs.Block.{WordsDeinterleaved, VerdictsWritten, Interleaved, BlockDecoded}
+use Rattle.decoder.specs.Block.{WordsDeinterleaved, VerdictsWritten, BlockReceivable, BlockDecoded}
 use Rattle.decoder.proofs.Parts.{splice, splice-long, part-here, part-before, part-long, within, beside}
 use Rattle.decoder.proofs.Trying.{bytes-clear}
 
@@ -121,7 +121,7 @@ pub joined : (f : ℕ → List ℕ) (size m : ℕ) (l : List ℕ) → length l �
 joined f size m l e h = sym (take-all (m * size) l (omega (arith, e))) ∙ joined-front f size m l h
 
 -- ---- the words that were taken out
-module _ {n m : ℕ} {block out verdicts : List ℕ} (b : Interleaved n m block out verdicts) {size : ℕ} (e : size ≡ bytesFor n) {words : List ℕ}
+module _ {n m : ℕ} {block out verdicts : List ℕ} (b : BlockReceivable n m block out verdicts) {size : ℕ} (e : size ≡ bytesFor n) {words : List ℕ}
     (long : length words ≡ m * bytesFor n) (small : (k : ℕ) → getD words k 0 < 256) (w : WordsDeinterleaved m size block words) where
   here : length words ≡ m * size
   here = long ∙ ap (λ (k : ℕ). m * k) (sym e)
@@ -178,7 +178,7 @@ module _ {x : Stated} (a : Accepted x) (few : x .n ≤ 127) {word out out′ : L
       ]
 
 -- ---- all words
-module _ {n t m : ℕ} {reps block out verdicts words out′ counts verdicts′ : List ℕ} (b : Interleaved n m block out verdicts) (few : n ≤ 127)
+module _ {n t m : ℕ} {reps block out verdicts words out′ counts verdicts′ : List ℕ} (b : BlockReceivable n m block out verdicts) (few : n ≤ 127)
     {size : ℕ} (e : size ≡ bytesFor n) (long : length words ≡ m * bytesFor n) (small : (k : ℕ) → getD words k 0 < 256)
     (w : WordsDeinterleaved m size block words) (y : DecodedEach n n t reps size words out out′ counts) (counts-long : length counts ≡ m)
     (v : VerdictsWritten counts verdicts′) (out-long : length out′ ≡ length out) (verdicts-long : length verdicts′ ≡ length verdicts) where
@@ -192,8 +192,8 @@ module _ {n t m : ℕ} {reps block out verdicts words out′ counts verdicts′ 
     word : (i : ℕ) → i < m → part (i * size) size words ≡ blockWordBytes (x .n) m block i
     word i h = words-are b e long small w i h ∙ ap (λ (k : ℕ). blockWordBytes k m block i) (u .n-is)
 
-    decoded : (i : ℕ) → i < m → (verdictAs (getD counts i 0), part (i * size) size out′) ≡ wordDecoded m x block out i
-    unfolding wordDecoded
+    decoded : (i : ℕ) → i < m → (verdictAs (getD counts i 0), part (i * size) size out′) ≡ partDecoded m x block out i
+    unfolding partDecoded
     decoded i h =
         y .each i (omega (arith, counts-long)) .is x u 0 (omega (arith, u .n-is))
         ∙ unshortened (u .accepted) (part (i * size) size words) (part (i * size) size out)
@@ -210,11 +210,11 @@ module _ {n t m : ℕ} {reps block out verdicts words out′ counts verdicts′ 
     output-is : out′ ≡ blockOutput m x block out
     unfolding blockOutput
     output-is =
-        joined (λ i. wordDecoded m x block out i .1) size m out′ (out-long ∙ b .out-long ∙ ap (λ (k : ℕ). m * k) (sym e))
+        joined (λ i. partDecoded m x block out i .1) size m out′ (out-long ∙ b .out-long ∙ ap (λ (k : ℕ). m * k) (sym e))
         (λ i h. ap (λ (p : Answer × List ℕ). p .1) (decoded i h))
 
-    verdict : (i : ℕ) → i < m → getD verdicts′ i 0 ≡ verdictOf (wordDecoded m x block out i .0)
-    unfolding wordDecoded
+    verdict : (i : ℕ) → i < m → getD verdicts′ i 0 ≡ verdictOf (partDecoded m x block out i .0)
+    unfolding partDecoded
     verdict i h =
         v .at i (omega (arith, counts-long))
         ∙ verdict-is (u .accepted) (omega (arith, u .n-is)) (form i h) (getD counts i 0) (decoded i h)
@@ -222,7 +222,7 @@ module _ {n t m : ℕ} {reps block out verdicts words out′ counts verdicts′ 
     verdicts-are : verdicts′ ≡ blockVerdicts m x block out
     unfolding blockVerdicts
     verdicts-are =
-        let g : ℕ → ℕ = λ i. verdictOf (wordDecoded m x block out i .0) in
+        let g : ℕ → ℕ = λ i. verdictOf (partDecoded m x block out i .0) in
         let l : length verdicts′ ≡ m = verdicts-long ∙ b .verdicts-long in
         ext-getD 0 verdicts′ (map g (upTo m)) (l ∙ sym (tabulated-length g m))
         (λ i h. verdict i (omega (arith, l)) ∙ sym (tabulated-at g m i 0 (omega (arith, l))))

@@ -1,8 +1,8 @@
 -- What decoding a block passes on, and says. No entry's contract cites this file.
 --
 --   WordsDeinterleaved m size block words      the block's m words, one after the other
---   VerdictsWritten counts verdicts      verdicts as bytes: 65,535 becomes 255, and a count stays
---   Interleaved n m block out verdicts   all lengths are right, and no spare bit is 1
+--   VerdictsWritten counts verdicts      verdicts as bytes, modulo 256: 65,535 becomes 255, and a count, which is below 255, stays
+--   BlockReceivable n m block out verdicts   all lengths are right, and no spare bit is 1
 --   BlockDecoded n t reps m block out verdicts reply      answer and bytes of the entry on an accepted sheet
 use mathlib.Core.Path.{_≡_}
 use mathlib.Core.Bool.{false}
@@ -22,7 +22,7 @@ pub record WordsDeinterleaved (m size : ℕ) (block words : List ℕ) : Type 0 w
 pub record VerdictsWritten (counts verdicts : List ℕ) : Type 0 where
   pub at : (i : ℕ) → i < length counts → getD verdicts i 0 ≡ getD counts i 0 % 256
 
-pub record Interleaved (n m : ℕ) (block out verdicts : List ℕ) : Type 0 where
+pub record BlockReceivable (n m : ℕ) (block out verdicts : List ℕ) : Type 0 where
   pub depth : m ≤ 16
   pub block-long : length block ≡ bytesFor (n * m)
   pub out-long : length out ≡ m * bytesFor n

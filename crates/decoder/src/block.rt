@@ -1,7 +1,7 @@
 // Decoding a block of m words, for an accepted sheet.
 //
-// Place j of word i is bit j·m + i of the block. So of any m·t neighbouring bits at most t are of one word, and a block of codewords of
-// which no more are spoiled comes back whole. The words are taken out of the block first, one after the other; then each is decoded into
+// Place j of word i is bit j·m + i of the block. So of any m·t neighbouring bits at most t are of one word, and a block of codewords whose
+// spoiled bits all lie among m·t neighbouring ones, none of them spare, comes back whole. The words are taken out of the block first, one after the other; then each is decoded into
 // its own bytes of the output, with one set of tables. Nothing is written before all lengths and spare bits are found right.
 ghost use mathlib.Core.Path.{_≡_};
 ghost use mathlib.Core.List.{[], _∷_};
@@ -10,7 +10,7 @@ ghost use lib.ListN.{length};
 ghost use Rattle.document.specs.Answer.{returned, repliedAs};
 ghost use Rattle.document.specs.Layout.{bytesFor};
 ghost use Rattle.decoder.specs.Correct.{Given};
-ghost use Rattle.decoder.specs.Block.{WordsDeinterleaved, VerdictsWritten, Interleaved, BlockDecoded};
+ghost use Rattle.decoder.specs.Block.{WordsDeinterleaved, VerdictsWritten, BlockReceivable, BlockDecoded};
 use crate::tables::decode_words;
 use codeword::block::deinterleave_word;
 use codeword::layout::bytes_for;
@@ -33,7 +33,7 @@ fn deinterleave(m: usize, size: usize, block: &[u8], words: &mut [u8])
     }
 }
 
-// Verdicts as bytes: a count of changed places stays as it is, and 65,535 for none near becomes 255.
+// Verdicts as bytes, modulo 256: a count of changed places, at most 127, stays as it is, and 65,535 for none near becomes 255.
 fn write_verdicts(counts: &[usize], verdicts: &mut [u8])
     requires { ⌜ length (now verdicts) ≡ length (now counts) ⌝ }
     ensures { λ _. ⌜ VerdictsWritten (now (counts .entry)) (now (verdicts .exit)) ⌝ }
@@ -59,7 +59,7 @@ fn decode_interleaved(
     out: &mut [u8],
     verdicts: &mut [u8],
 )
-    requires { ⌜ Given n s t c (now representatives) × Interleaved n m (now block) (now out) (now verdicts) × (length (now words) ≡ m * bytesFor n) × (length (now counts) ≡ m) × (c .terms < 1024) × (n ≤ 127) ⌝ }
+    requires { ⌜ Given n s t c (now representatives) × BlockReceivable n m (now block) (now out) (now verdicts) × (length (now words) ≡ m * bytesFor n) × (length (now counts) ≡ m) × (c .terms < 1024) × (n ≤ 127) ⌝ }
     ensures { λ _. ⌜ BlockDecoded n t (now (representatives .entry)) m (now (block .entry)) (now (out .entry)) (now (verdicts .entry)) (returned (0 ∷ []), (now (out .exit), now (verdicts .exit))) ⌝ }
 {
     let size = bytes_for(n);

@@ -1,7 +1,7 @@
 -- Blocks of words (2026-07): rows on sheets H and E, on one with words of two bytes, and on one for m = 16, that the definition holds.
 -- They are said of the entry as it is defined; rule 3 is computed by what Tested.antt shows it to be.
 --
---   BlockCall, blockBy      the entry, by the conditions of a sheet
+--   BlockEntry, blockBy      the entry, by the conditions of a sheet
 --   block-tested            it answers the same by the test that can be computed
 --   blocks-hold             the rows: each with the misreading that it catches
 use mathlib.Core.Path.{_≡_, refl, ap, _∙_, fun-ext}
@@ -9,7 +9,7 @@ use mathlib.Core.List.{List, [], _∷_, _++_}
 use Prim.Native.Nat.{ℕ}
 use lib.ListN.{replicate}
 use Rattle.document.specs.Answer.{Answer, Conditions}
-use Rattle.document.specs.Block.{depthConditions, blockWord, wordDecoded, verdictFor, blockOutput, blockVerdicts, blockConditions, blockEntry}
+use Rattle.document.specs.Block.{depthConditions, blockWord, partDecoded, verdictFor, blockOutput, blockVerdicts, blockConditions, blockEntry}
 use Rattle.document.specs.Short.{stated, decodeBlockOf}
 use Rattle.document.proofs.Tested.{testedOf}
 use Rattle.document.proofs.Cases.{definitions, sheetOf, oneCertificate, sheetH, sheetE}
@@ -19,13 +19,13 @@ use Rattle.document.proofs.ShortenedCases.{tested-between}
 abbrev BlockReply : Type 0
 BlockReply = Answer × (List ℕ × List ℕ)
 
-abbrev BlockCall : Type 0
-BlockCall = List ℕ → ℕ → List ℕ → List ℕ → List ℕ → BlockReply
+abbrev BlockEntry : Type 0
+BlockEntry = List ℕ → ℕ → List ℕ → List ℕ → List ℕ → BlockReply
 
-abbrev blockBy : (List ℕ → Conditions) → BlockCall
+abbrev blockBy : (List ℕ → Conditions) → BlockEntry
 blockBy R = λ sheet m block out verdicts. blockEntry (R sheet ++ depthConditions m) m (stated sheet) block out verdicts
 
-abbrev documented : BlockCall
+abbrev documented : BlockEntry
 documented = decodeBlockOf
 
 block-tested : documented ≡ blockBy testedOf
@@ -44,7 +44,7 @@ sheetThree = oneCertificate 3 (1 ∷ []) 1 1 3 1 2
 
 -- ---- the rows: the number, what is returned, the output and the verdicts. On sheet H the words sent are 11, 44 and 127,
 -- in bytes D0, 34 and FE.
-module _ (E : BlockCall) where
+module _ (E : BlockEntry) where
   all : BlockReply → List ℕ
   all r = r .0 .number ∷ r .0 .values ++ r .1 .0 ++ r .1 .1
 
@@ -137,7 +137,7 @@ expected =
     ∷ []
 
 computed : rows (blockBy testedOf) ≡ expected
-unfolding rows expected all number two three nine sheetNine sheetThree sheetH sheetE oneCertificate sheetOf definitions blockWord wordDecoded verdictFor
+unfolding rows expected all number two three nine sheetNine sheetThree sheetH sheetE oneCertificate sheetOf definitions blockWord partDecoded verdictFor
     blockOutput blockVerdicts blockConditions blockEntry
 computed = refl
 

@@ -5,7 +5,7 @@
 --   blockPlaces m x              how many bits of a block are no spare ones
 --   blockWord n m block i        word i of a block, as a mask; blockWordBytes: in word layout
 --   ownBytes n i out             word i's own bytes of the output
---   wordDecoded m x block out i  what decoding word i answers, and leaves in its own bytes
+--   partDecoded m x block out i  what decoding word i answers, and leaves in its own bytes
 --   verdictFor, verdictOf        a verdict
 --   blockOutput, blockVerdicts   what both buffers hold afterwards
 --   blockConditions, blockEntry      11 and 12 in their order; answer, and the bytes of both buffers
@@ -45,8 +45,8 @@ ownBytes n i out = take (bytesFor n) (drop (i * bytesFor n) out)
 
 -- "Each corrected word goes into its own bytes of the lent output; a word with no codeword within t leaves its bytes as they were": decoding
 -- itself, whose 13 changes no byte
-unfoldable pub wordDecoded : ℕ → Stated → List ℕ → List ℕ → ℕ → Answer × List ℕ
-wordDecoded m x block out i = decodeEntry [] x (blockWordBytes (x .n) m block i) (ownBytes (x .n) i out)
+unfoldable pub partDecoded : ℕ → Stated → List ℕ → List ℕ → ℕ → Answer × List ℕ
+partDecoded m x block out i = decodeEntry [] x (blockWordBytes (x .n) m block i) (ownBytes (x .n) i out)
 
 -- "A verdict byte for each word holds its changed places, or 255 for none near."
 unfoldable pub verdictFor : ℕ → List ℕ → ℕ
@@ -57,10 +57,10 @@ abbrev pub verdictOf : Answer → ℕ
 verdictOf answer = verdictFor (answer .number) (answer .values)
 
 unfoldable pub blockOutput : ℕ → Stated → List ℕ → List ℕ → List ℕ
-blockOutput m x block out = flatMap (λ i. wordDecoded m x block out i .1) (upTo m)
+blockOutput m x block out = flatMap (λ i. partDecoded m x block out i .1) (upTo m)
 
 unfoldable pub blockVerdicts : ℕ → Stated → List ℕ → List ℕ → List ℕ
-blockVerdicts m x block out = map (λ i. verdictOf (wordDecoded m x block out i .0)) (upTo m)
+blockVerdicts m x block out = map (λ i. verdictOf (partDecoded m x block out i .0)) (upTo m)
 
 -- ---- the entry. "The output is m words long", "and the verdicts m bytes. .. Buffer lengths and spare bits are 11 and 12": of the block, then
 -- the output, then the verdicts

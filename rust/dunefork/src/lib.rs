@@ -36,7 +36,7 @@
 //! fewer are sent: k - m and n - m.
 //!
 //! Where a soft starter wipes out a run of bits, m words are sent together as a block, one place of each in turn ([`block_put`]), and
-//! [`decode_block`] corrects them all, whole as long as at most m·t neighbouring bits are spoiled.
+//! [`decode_block`] corrects them all, whole as long as at most m·t neighbouring bits are spoiled, none of them spare.
 //!
 //! Spare bits must be 0 in what is handed over, and are 0 in what comes back. n is byte 2 of the sheet; [`card`] tells n, k, d and t of
 //! a sheet, and docs/SHEETS.md how to write one.
@@ -526,7 +526,8 @@ pub fn decode_short(sheet: &[u8], m: usize, word: &[u8], out: &mut [u8]) -> Resu
 /// after the other in word layout, and `verdicts` exactly m. m is 2 to 16.
 ///
 /// A block of codewords of which at most m·t neighbouring bits are spoiled, none of them spare, always comes back whole: every word is
-/// the one sent, and its verdict the number of its wrong places. There is no call that encodes a block: [`encode`] the words one by
+/// the one sent, and its verdict the number of its wrong places. (The spoiled bits then all lie in a run of m·t bits, any of which may be
+/// right.) There is no call that encodes a block: [`encode`] the words one by
 /// one, and [`block_put`] each into the block. What [`decode`] says of more than t wrong places holds of each word.
 ///
 /// ```

@@ -4,19 +4,9 @@
 # A call is a sheet, the kind, 11, the input, and 0. The input is m, eight bytes, the lengths of the output, two, and of the verdicts, one,
 # and the block.
 import second_reading as reading
+from boundary_shortened import B, E, H, LONG, NINE, S, run
 from entry_answers import certificate, sheet
 
-
-def run(b, count):
-    return certificate(b, 1, 3, 1, count)
-
-
-H = sheet(7, [1], run(1, 2))
-E = sheet(7, [0, 1], run(0, 3))
-S = sheet(17, [1], certificate(13, 1, 7, 3, 9))
-B = sheet(15, [1, 3], run(1, 4))
-NINE = sheet(9, [0], run(0, 1))
-LONG = sheet(127, [1], run(1, 2))
 # among them t = 0, k = 1 and k = n, t below what the code has, and t of the second certificate of two and of the first
 SHEETS = (H, E, S, B, NINE, LONG, sheet(3, [1], run(1, 2)), sheet(9, [], certificate(0, 1, 11, 2, 1)), sheet(15, [1, 3, 5], run(1, 6)),
           sheet(23, [1], run(1, 4)), sheet(15, [1, 3], run(1, 2), run(1, 4)), sheet(15, [1, 3], run(1, 4), run(1, 2)),

@@ -35,6 +35,7 @@ all_of [] h = none
 all_of (b ∷ l) h = more (h b here) (all_of l (λ c i. h c (there i)))
 
 pub all_at : {B : Type 0} {P : B → Type 0} {l : List B} {b : B} → All P l → In b l → P b
+all_at none i = elim i [ ]
 all_at (more h hs) here = h
 all_at (more h hs) (there i) = all_at hs i
 
@@ -43,7 +44,7 @@ map_in f {l = []} i = elim i [ ]
 map_in f {l = b ∷ l} here = (b, here, refl)
 map_in f {l = b ∷ l} (there i) = let r = map_in f {l = l} i in (r.0, there r.1, r.2)
 
-pub in_map : {B C : Type 0} (f : B → C) {l : List B} {b : B} → In b l → In (f b) (map f l)
+pub in_map : {B C : Type 0} (f : B → C) {b : B} {l : List B} → In b l → In (f b) (map f l)
 in_map f here = here
 in_map f (there i) = there (in_map f i)
 
@@ -63,6 +64,7 @@ record Without {B : Type 0} (b : B) (m : List B) : Type 0 where
   keeps : (c : B) → In c m → b ≢ c → In c rest
 
 without : {B : Type 0} {b : B} (m : List B) → In b m → Without b m
+without [] i = elim i [ ]
 without (b ∷ m) here = record { rest = m; one_less = refl; keeps = keeps }
   where
     keeps : (c : _) → In c (b ∷ m) → b ≢ c → In c m

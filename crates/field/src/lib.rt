@@ -1,4 +1,5 @@
 // The field of 2^s elements: masks below 2^s, multiplied modulo document 01's mask of degree s.
+#![tactic(auto)]
 
 // the answer of a division
 pub mod types;

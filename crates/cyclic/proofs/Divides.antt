@@ -16,7 +16,7 @@ use Rattle.algebra.proofs.Series.{Ser, const, one_is, const_const}
 use Rattle.algebra.proofs.Poly.{Polys, const_poly}
 
 module _ {A : Type 0} {R : Ring A} {P : A → Type 0} (S : Sub R P) where
-  pub in_divides : {B : Type 0} (f : B → A) → ((b : B) → P (f b)) → {l : List B} {b : B} → In b l
+  pub in_divides : {B : Type 0} (f : B → A) → ((b : B) → P (f b)) → {b : B} {l : List B} → In b l
       → Divides S (f b) (prod R f l)
   unfolding prod
   in_divides f h (here {l = l}) = record { by = prod R f l; by_in = has_prod S f h l; eq = refl }

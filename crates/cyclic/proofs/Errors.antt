@@ -126,7 +126,7 @@ module _ {A : Type 0} (R : Ring A) where
       support_count = count_places n (le_refl n)
 
     module _ {I : Type 0} (Y : I → A) where
-      pub in_support : {l : List I} {i : I} → In i l → Y i ≢ 𝟘 → In i (support R K Y l)
+      pub in_support : {i : I} {l : List I} → In i l → Y i ≢ 𝟘 → In i (support R K Y l)
       unfolding support keep
       in_support {i = i} (here {l = l}) ne = go (K.discrete (Y i) 𝟘) (support R K Y l)
         where

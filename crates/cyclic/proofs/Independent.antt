@@ -176,7 +176,7 @@ module _ {A : Type 0} {R : Ring A} {n : ℕ} (C : Code R n) {u f : ℕ} (d : Den
       test i h l = record {
         u = 1ₛ ⊕ const R k ⊗ lift R (f / 2) ⊗ lift R w.0;
         v = const R k ⊗ lift R (f / 2) ⊗ sub R c (lift R w.0);
-        u_in = S.has_add S.Has-one (S.has_mul (S.has_mul (const_poly R k) (lift_poly R _)) (lift_poly R _));
+        u_in = S.has_add S.has_one (S.has_mul (S.has_mul (const_poly R k) (lift_poly R _)) (lift_poly R _));
         v_in = S.has_mul (S.has_mul (const_poly R k) (lift_poly R _)) (sub_poly R c (lift_poly R _));
         eq = combination (Ser R) (lift R f) (sub R c (lift R f)) _ _ Q x (const R c) (const R k) (lift R (f / 2)) whole moved inverse odd;
       }

@@ -17,7 +17,7 @@ use Rattle.field.specs.Search.{up_to, keep}
 use Rattle.field.proofs.Search.{length_up_to, length_keep}
 
 -- ---- one element more at the end
-in_left : {l : List ℕ} (x : ℕ) {i : ℕ} → In i l → In i (l ++ (x ∷ []))
+in_left : (x : ℕ) {i : ℕ} {l : List ℕ} → In i l → In i (l ++ (x ∷ []))
 in_left x here = here
 in_left x (there m) = there (in_left x m)
 
@@ -63,7 +63,7 @@ up_to_distinct (suc n) =
 
 -- ---- a test
 module _ (test : ℕ → Bool) where
-  pub keep_in : {l : List ℕ} {i : ℕ} → In i l → T (test i) → In i (keep test l)
+  pub keep_in : {i : ℕ} {l : List ℕ} → In i l → T (test i) → In i (keep test l)
   unfolding keep
   keep_in {i = i} (here {l = l}) t = go (test i) t
     where

@@ -79,6 +79,7 @@ module _ {A : Type 0} (R : Ring A) where
 
   pub Π-root : (l : List A) (x : A) → In x l → prod R (λ a. x + a) l ≡ 𝟘
   unfolding prod
+  Π-root [] x i = elim i [ ]
   Π-root (a ∷ l) x here = ap (λ y. y * prod R (λ b. x + b) l) (add_self R x) ∙ zero-mul R _
   Π-root (a ∷ l) x (there i) = ap (λ y. (x + a) * y) (Π-root l x i) ∙ mul-zero R _
 

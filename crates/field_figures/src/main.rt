@@ -1,5 +1,6 @@
 // Figures of the field of 2^s elements for every degree: products, powers, logarithms, inverses, the table of
 // polynomials and the order of 2. tools/field_figures.py makes the same figures with none of this code.
+#![tactic(auto)]
 
 // the checksum of a row of values
 mod checksum;

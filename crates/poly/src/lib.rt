@@ -1,4 +1,5 @@
 // Polynomials over the field in lent slices, and Euclid's algorithm on them, which solves the key equation.
+#![tactic(auto)]
 
 // where the locator stands
 pub mod types;

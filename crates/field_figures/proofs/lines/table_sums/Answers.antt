@@ -1,0 +1,7 @@
+-- `field_figures::lines::table_sums` meets its contract: the arrays are long enough for the tables of every degree.
+use native.Mathlib.Omega.{arith}
+use Rattle.field_figures.proofs.Laws.{tables_fit}
+use Rattle.field_figures.proofs.lines.table_sums.Goals as goal
+
+pub fill-requires : goal.fill-requires
+fill-requires c = tables_fit c.requires (omega arith) (omega arith)

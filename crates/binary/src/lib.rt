@@ -1,4 +1,5 @@
 // Polynomials over two elements, as masks and packed 64 places to a number.
+#![tactic(auto)]
 
 // coprime numbers, and the degree of a mask
 pub mod factor;

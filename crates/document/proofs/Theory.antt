@@ -55,7 +55,7 @@ pub of_T : (b : Bool) → T b → b ≡ true
 of_T true t = refl
 of_T false t = absurd t
 
-some_in : (test : ℕ → Bool) {l : List ℕ} {x : ℕ} → In x l → test x ≡ true → some test l ≡ true
+some_in : (test : ℕ → Bool) {x : ℕ} {l : List ℕ} → In x l → test x ≡ true → some test l ≡ true
 unfolding some
 some_in test (here {l = l}) e = ap (λ b. b || some test l) e
 some_in test (there {c = c} {l = l} m) e = or_right (test c) (some_in test m e)

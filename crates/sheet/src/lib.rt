@@ -1,4 +1,5 @@
 // A code sheet's bytes to what it states; of what is stated, refusal 5 and the defining set D.
+#![tactic(auto)]
 
 // a certificate
 pub mod types;

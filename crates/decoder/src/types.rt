@@ -1,5 +1,5 @@
 // What correcting a word says: how many places are to be changed, or that no codeword is within t places.
-#[derive(Drop)]
+#[derive(Clone, Copy)]
 pub enum Correction {
     Places(usize),
     None,
@@ -7,7 +7,7 @@ pub enum Correction {
 
 // Whether a decoded trial word of a word with marked places is the answer, and then in how many unmarked places it differs from the
 // received word.
-#[derive(Drop)]
+#[derive(Clone, Copy)]
 pub enum Trial {
     Answer(usize),
     Other,

@@ -1,5 +1,5 @@
 // The answer of a division: a quotient, or none where the divisor is zero.
-#[derive(Drop)]
+#[derive(Clone, Copy)]
 pub enum Quotient {
     Of(u16),
     Absent,

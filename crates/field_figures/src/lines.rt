@@ -47,7 +47,7 @@ pub fn product_line(s: usize)
     end();
 }
 
-#[derive(Drop)]
+#[derive(Clone, Copy)]
 struct TableSums {
     powers: u64,
     logs: u64,

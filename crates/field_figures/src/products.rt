@@ -7,7 +7,7 @@ ghost use Rattle.field_figures.specs.Sums.{BelowModulus};
 
 use crate::checksum::{add, size};
 
-#[derive(Drop)]
+#[derive(Clone, Copy)]
 pub struct Sums {
     pub shifts: u64,
     pub tables: u64,

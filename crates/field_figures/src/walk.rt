@@ -4,7 +4,7 @@ ghost use Rattle.field.specs.Field.{Degree};
 
 use crate::checksum::size;
 
-#[derive(Drop)]
+#[derive(Clone, Copy)]
 pub struct Counts {
     pub masks: u64,
     pub primitive: u64,

@@ -8,7 +8,7 @@ use field::order::{step, twice};
 use field::power::power;
 use field::product::{mask, multiply, order};
 
-#[derive(Drop)]
+#[derive(Clone, Copy)]
 pub struct Factor {
     pub mask: u16,
     pub degree: usize,

@@ -1,4 +1,5 @@
 // The generator of a code, coset by coset.
+#![tactic(auto)]
 
 // the product of x - α^i over one coset
 pub mod coset;

@@ -2,7 +2,7 @@
 use document::types::Refusal;
 
 // The best certificate so far: its index, its distance, and its number of terms.
-#[derive(Drop)]
+#[derive(Clone, Copy)]
 pub struct Best {
     pub index: usize,
     pub d: usize,
@@ -10,7 +10,7 @@ pub struct Best {
 }
 
 // All certificates checked: the working one, or the first refusal.
-#[derive(Drop)]
+#[derive(Clone, Copy)]
 pub enum Weighed {
     Working(Best),
     Refused(Refusal),

@@ -1,6 +1,6 @@
 // The sums of a locator's terms at a place and at the three after it.
 
-#[derive(Drop)]
+#[derive(Clone, Copy)]
 pub struct Four {
     pub first: u16,
     pub second: u16,

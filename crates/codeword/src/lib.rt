@@ -1,4 +1,5 @@
 // Words and messages in bytes; the codeword of a message, the message of a codeword, and which words are codewords.
+#![tactic(auto)]
 
 // single places, four or eight at once, and spare bits
 pub mod layout;

@@ -1,4 +1,5 @@
 // What a sheet states that draws none of refusals 1 to 4: refusals 5 to 10, the working certificate and the record.
+#![tactic(auto)]
 
 // the best certificate so far
 pub mod types;

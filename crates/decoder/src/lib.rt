@@ -1,5 +1,6 @@
 // From a received word to the places to change, and its bytes with these changed, or refusal 13; and the same with marked places, or
 // refusal 15; and a block of words. decode.rt says how it goes, marked.rt with marks, block.rt with a block.
+#![tactic(auto)]
 
 // what correcting a word says
 pub mod types;

@@ -1,4 +1,5 @@
 // Text in a lent slice: bytes, numbers, and the lines of a sheet's listing.
+#![tactic(auto)]
 
 // bytes and decimal numbers
 pub mod piece;

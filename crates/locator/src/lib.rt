@@ -1,4 +1,5 @@
 // The places at which the factor of a place divides a locator.
+#![tactic(auto)]
 
 // four sums
 pub mod types;

@@ -1,4 +1,5 @@
 // The values of a word at powers of α, and its syndromes; whether a word with some places changed is a codeword.
+#![tactic(auto)]
 
 // the value of a word at one power of ω
 pub mod columns;

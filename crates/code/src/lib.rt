@@ -1,5 +1,6 @@
 // The entries, each for any input: judge, encode, read and decode, these three of shortened codes too, decode_marked with shown, decode_block,
 // and card; and the numbers of refusals.
+#![tactic(auto)]
 
 // the documents' numbers of refusals
 pub mod refusal;

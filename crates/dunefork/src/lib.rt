@@ -1,4 +1,6 @@
 // The C interface: one entry for each operation, with the answer as one number. include/dunefork.h says it for C.
+#![tactic(auto)]
+
 pub mod codes;
 
 ghost use Rattle.std.specs.Prelude.{◌≡◌, length};

@@ -1,7 +1,6 @@
 -- `field::order::order_of_two` meets its contract: x is 2^s modulo n, and s is not past the order, which is below n.
 use borrow.Author.Rules.{rules}
 use native.Mathlib.Omega.{arith}
-use Prim.Native.Nat.{◌-◌}
 use Rattle.field.proofs.OrderOfTwo.{order_lt, order_pos, count_start, count_on, count_more, count_lt, count_end}
 use Rattle.field.proofs.order.order_of_two.Goals as goal
 

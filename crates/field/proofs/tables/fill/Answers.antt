@@ -1,7 +1,6 @@
 -- `field::tables::fill` meets its contract: each power past the first round is the one a round before it.
 use native.Mathlib.Omega.{arith}
 use mathlib.Core.Path.{refl, ◌∙◌}
-use Prim.Native.Nat.{◌-◌}
 use lib.ListN.{length-set}
 use Rattle.field.proofs.Primitive.{Degree-bounds}
 use Rattle.field.proofs.Filling.{powers_round, filled, fillable_kept, round_fillable}

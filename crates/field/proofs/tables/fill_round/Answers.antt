@@ -1,7 +1,6 @@
 -- `field::tables::fill_round` meets its contract: x is ω^i, and the entries of the powers below i are set.
 use native.Mathlib.Omega.{arith}
 use mathlib.Core.Path.{◌≡◌, refl}
-use Prim.Native.Nat.{◌-◌}
 use lib.ListN.{length-set}
 use Rattle.field.proofs.Primitive.{Degree-bounds}
 use Rattle.field.proofs.Numbers.{one_lt, product_lt}

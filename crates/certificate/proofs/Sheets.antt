@@ -9,7 +9,7 @@
 use mathlib.Core.Path.{◌≡◌}
 use mathlib.Core.Logic.{◌≢◌, ◌↔◌}
 use mathlib.Core.List.{List}
-use Prim.Native.Nat.{ℕ, ◌-◌, ◌^◌, ◌≤◌, ◌<◌}
+use Prim.Native.Nat.{ℕ, ◌^◌, ◌≤◌, ◌<◌}
 use lib.ListN.{length}
 use Rattle.document.specs.Answer.{first_of}
 use Rattle.document.specs.Sheet.{Stated, certificate_at, Kind, stated_by, wrong_length, wrong_code_length, wrong_header}

@@ -18,13 +18,13 @@ use lib.Dec.{eqb, leb, ltb}
 use lib.ListN.{length}
 use borrow.Author.Tests.{eq-eqb, ne_eqb, leb-true, le-leb, ltb-true, lt-ltb}
 use Rattle.field.specs.Search.{least}
-use Rattle.field.proofs.Search.{Least, least_is, least_unique, and_both}
+use Rattle.field.proofs.Search.{least_is, least_unique, and_both}
 use Rattle.document.specs.Answer.{Answer, returned, refused, Conditions, first_of, settle}
 use Rattle.document.specs.Layout.{word_weight, bytes_for, mask_of, bytes_of, spare}
 use Rattle.document.specs.Sheet.{Stated}
 use Rattle.document.specs.Generator.{encode_mask, differences, nearest}
 use Rattle.document.specs.Judge.{dimension_of}
-use Rattle.document.specs.Entry.{generator_of, radius_of, CodewordOf, wrong_size, word_of, nearest_message, decoded_word, decode_conditions, decode_entry}
+use Rattle.document.specs.Entry.{generator_of, radius_of, wrong_size, word_of, nearest_message, decoded_word, decode_conditions, decode_entry}
 use Rattle.document.specs.Shortened.{sent_places, sent_word_of, top_zero, ShortenedCodeword, shortened_message, decoded_shortened}
 use Rattle.document.specs.Shortened.{decode_shortened_conditions, decode_shortened_entry}
 use Rattle.document.proofs.Encoding.{encode_lt}

@@ -51,7 +51,7 @@ use Rattle.decoder.specs.Decode.{States}
 use Rattle.listing.specs.Accepted.{Rated}
 use Rattle.listing.specs.Accepted as Page
 use Rattle.code.specs.Stating.{CardListable, CardLists, CardListed, JudgedInto}
-use Rattle.code.proofs.Accepted.{Limits, Recorded, judged_record, recorded, conditions, coded, usable, usable_by, part_is}
+use Rattle.code.proofs.Accepted.{Limits, Recorded, judged_record, recorded, conditions, usable, usable_by, part_is}
 
 pub number_le : (q : Refusal) → number_of q ≤ 17
 number_le SheetLength = omega arith

@@ -9,35 +9,32 @@
 --   found_said, decoded_said, none_said      decoding
 --   other_near             13 where a codeword that is no shortened one is near
 use mathlib.Core.Path.{◌≡◌, refl, sym, ap, ap₂, ◌∙◌, subst}
-use mathlib.Core.Logic.{◌≢◌, ◌↔◌, ◌⊎◌, inl, inr}
+use mathlib.Core.Logic.{◌≢◌, ◌↔◌, inl, inr}
 use mathlib.Core.Bool.{Bool, true, false, not, ◌||◌}
 use mathlib.Core.List.{List, [], ◌∷◌, ◌++◌}
-use Prim.Native.Nat.{ℕ, zero, suc, ◌+◌, ◌-◌, ◌*◌, ◌/◌, ◌%◌, ◌^◌, ◌≤◌, ◌<◌}
+use Prim.Native.Nat.{ℕ, ◌+◌, ◌-◌, ◌/◌, ◌%◌, ◌^◌, ◌≤◌, ◌<◌}
 use native.Mathlib.Nat.{lt_of_lt_of_le}
 use native.Mathlib.Decide.{dec_lt}
 use native.Mathlib.Omega.{arith}
 use borrow.Author.Tests.{ne_eqb, lt-leb}
-use lib.Dec.{leb}
 use lib.ListN.{length}
 use lib.Pow.{pow_mono, shr-shr}
 use Rattle.field.specs.Search.{total}
 use Rattle.field.proofs.Search.{total_ext, total_still}
-use Rattle.field.specs.Mask.{◌⊕◌, coefficient, remainder}
+use Rattle.field.specs.Mask.{◌⊕◌, coefficient}
 use Rattle.field.specs.Field.{order_of_two}
 use Rattle.field.proofs.Xor.{⊕-lt}
 use Rattle.cyclic.proofs.Places.{coefficient_above}
 use Rattle.binary.proofs.Digits.{below_pow}
 use Rattle.document.specs.Answer.{Answer, returned, refused, first_of}
-use Rattle.document.specs.Layout.{word_weight, message_weight, bytes_for, place, mask_of, bytes_of, spare}
+use Rattle.document.specs.Layout.{word_weight, message_weight, bytes_for, place, mask_of, bytes_of}
 use Rattle.document.specs.Sheet.{Stated}
 use Rattle.document.specs.Generator.{is_codeword, encode_mask, message_of, differences}
 use Rattle.document.specs.Certificate.{distance}
 use Rattle.document.specs.Judge.{dimension_of, working_certificate}
 use Rattle.document.specs.Entry.{CodewordOf, generator_of, radius_of, word_of, encoded_word}
-use Rattle.document.specs.Shortened.{wrong_shortening, shortening_conditions, sent_places, sent_word_of, sent_message_of, ShortenedCodeword, encoded_shortened}
-use Rattle.document.specs.Shortened.{encode_shortened_conditions, encode_shortened_entry, read_shortened_conditions, read_shortened_entry}
-use Rattle.document.specs.Shortened.{decode_shortened_conditions, decode_shortened_entry}
-use Rattle.document.specs.Short.{short, stated, refusals_of, judge_of, encode_of, encode_shortened_of, read_shortened_of, decode_shortened_of}
+use Rattle.document.specs.Shortened.{wrong_shortening, shortening_conditions, sent_word_of, sent_message_of, ShortenedCodeword, encoded_shortened}
+use Rattle.document.specs.Short.{short, stated, refusals_of, encode_of, encode_shortened_of, read_shortened_of, decode_shortened_of}
 use Rattle.document.proofs.Theory.{Length}
 use Rattle.document.proofs.Chain.{Quiet, silent, passing, quiet_append}
 use Rattle.document.proofs.Acceptance.{judge_number, quiet_of}

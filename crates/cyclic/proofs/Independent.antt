@@ -9,7 +9,7 @@
 --   apart_binary          both
 use mathlib.Core.Path.{◌≡◌, sym, ap, ap₂, ◌∙◌, subst, fun_ext}
 use mathlib.Core.Logic.{◌↔◌}
-use Prim.Native.Nat.{ℕ, zero, ◌*◌ as ◌*ℕ◌, ◌/◌, ◌%◌, ◌^◌, ◌<◌}
+use Prim.Native.Nat.{ℕ, ◌*◌ as ◌*ℕ◌, ◌/◌, ◌%◌, ◌^◌, ◌<◌}
 use Rattle.algebra.proofs.Ring.{Ring, ring, one-mul, mul-zero, mul_comm, eq_of_add}
 use Rattle.algebra.proofs.Power.{pow, pow_1, pow_comm, one_pow}
 use Rattle.algebra.proofs.Lists.{all_of, prod}

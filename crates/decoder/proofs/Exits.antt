@@ -28,7 +28,7 @@ use Rattle.document.specs.Layout.{word_weight, bytes_for, mask_of, bytes_of, spa
 use Rattle.document.specs.Sheet.{Stated}
 use Rattle.document.specs.Generator.{Codeword, differences}
 use Rattle.document.specs.Entry.{CodewordOf, wrong_size, radius_of}
-use Rattle.document.specs.Shortened.{sent_places, sent_word_of, ShortenedCodeword, decoded_shortened, decode_shortened_conditions, decode_shortened_entry}
+use Rattle.document.specs.Shortened.{sent_places, sent_word_of, decoded_shortened, decode_shortened_conditions, decode_shortened_entry}
 use Rattle.document.proofs.Settled.{entry_refused, size_wrong, size_right}
 use Rattle.document.proofs.Chain.{silent, first_true, first_false}
 use Rattle.certificate.proofs.Sheets.{sheet_unique}

@@ -12,7 +12,7 @@ use mathlib.Core.Path.{◌≡◌, refl, sym, ap, ap₂, ◌∙◌, subst}
 use mathlib.Core.Logic.{◌≢◌, ◌⊎◌, inl, inr}
 use mathlib.Core.Bool.{Bool, true, false, not}
 use mathlib.Core.List.{List, [], ◌∷◌, ◌++◌, map, flat_map}
-use Prim.Native.Nat.{ℕ, zero, suc, ◌+◌, ◌-◌, ◌*◌, ◌/◌, ◌%◌, ◌≤◌, ◌<◌}
+use Prim.Native.Nat.{ℕ, zero, suc, ◌+◌, ◌*◌, ◌%◌, ◌≤◌, ◌<◌}
 use native.Mathlib.Nat.{mul-le-mul_right, suc-mul, zero-mul}
 use native.Mathlib.Decide.{ℕ_discrete}
 use native.Mathlib.Omega.{arith}
@@ -25,7 +25,7 @@ use Rattle.field.specs.Search.{up_to}
 use Rattle.field.proofs.Search.{total_most}
 use Rattle.field.proofs.Xor.{digit_lt}
 use Rattle.document.specs.Answer.{Answer, returned, refused, Conditions, first_of}
-use Rattle.document.specs.Layout.{word_weight, bytes_for, bytes_of, spare}
+use Rattle.document.specs.Layout.{word_weight, bytes_for, spare}
 use Rattle.document.specs.Sheet.{Stated}
 use Rattle.document.specs.Generator.{differences}
 use Rattle.document.specs.Entry.{wrong_size, word_of, changed, decode_entry}
@@ -40,7 +40,7 @@ use Rattle.certificate.proofs.Shortening.{unshortened}
 use Rattle.codeword.specs.Interleaved.{Deinterleaved}
 use Rattle.codeword.proofs.Places.{bytes_length}
 use Rattle.codeword.proofs.Interleaving.{block_word_lt, word_deinterleaved}
-use Rattle.decoder.specs.Decode.{States, Decoded, verdict_as, part, Lined, DecodedEach}
+use Rattle.decoder.specs.Decode.{States, verdict_as, part, Lined, DecodedEach}
 use Rattle.decoder.specs.Block.{WordsDeinterleaved, VerdictsWritten, BlockReceivable, BlockDecoded}
 use Rattle.decoder.proofs.Parts.{splice, splice_long, part_here, part_before, part_long, within, beside}
 use Rattle.decoder.proofs.Trying.{bytes_clear}

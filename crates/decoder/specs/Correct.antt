@@ -5,7 +5,7 @@
 --   corrected_as, Verified    a correction in document 01's numbers, and what the last test lets through
 --   Workspace, Held, Correctable      lent slices that are long enough and hold 0 where they must, and a word
 --   Corrected                the codeword within t places, or that there is none
-use Rattle.std.specs.Prelude.{◌≡◌, Bool, true, false, List, [], ◌∷◌, ℕ, ◌+◌, ◌-◌, ◌*◌, ◌/◌, ◌%◌, ◌^◌, ◌≤◌, ◌<◌, length, get_or}
+use Rattle.std.specs.Prelude.{◌≡◌, Bool, true, false, List, [], ◌∷◌, ℕ, ◌+◌, ◌*◌, ◌/◌, ◌%◌, ◌^◌, ◌≤◌, ◌<◌, length, get_or}
 use Rattle.field.specs.Mask.{◌⊕◌}
 use Rattle.field.specs.Field.{order_of_two}
 use Rattle.field.specs.Tables.{Tables}

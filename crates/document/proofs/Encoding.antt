@@ -28,7 +28,7 @@ use Rattle.algebra.proofs.Power.{pow}
 use Rattle.algebra.proofs.Lists.{All, all_map}
 use Rattle.algebra.proofs.Sum.{sum, sum_z, sum_s}
 use Rattle.algebra.proofs.Value.{ev_sum}
-use Rattle.field.specs.Mask.{◌⊕◌, coefficient, size, clmul, remainder}
+use Rattle.field.specs.Mask.{coefficient, size, clmul, remainder}
 use Rattle.field.specs.Field.{Degree, field_power, order_of_two, α}
 use Rattle.field.proofs.Xor.{digit, digit_lt, ⊕-lt}
 use Rattle.field.proofs.MaskProduct.{size_lt}

@@ -18,7 +18,7 @@ use Rattle.field.proofs.Value.{value}
 use Rattle.cyclic.proofs.Coset as Coset
 use Rattle.document.specs.Generator.{value_at}
 use Rattle.document.proofs.Cosets.{turn_back, walk_start, walk_more}
-use Rattle.document.proofs.Theory.{degree, root_mod}
+use Rattle.document.proofs.Theory.{root_mod}
 use Rattle.document.proofs.Encoding.{value_is}
 use Rattle.syndrome.specs.Value.{value_of, Conjugable, Conjugated}
 use Rattle.syndrome.proofs.Setting.{value_lt}

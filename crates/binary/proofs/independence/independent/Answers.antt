@@ -1,6 +1,5 @@
 -- `binary::independence::independent` meets its contract: what is left of the rows after each turn is free exactly where all are.
 use native.Mathlib.Omega.{arith}
-use Prim.Native.Nat.{◌-◌}
 use Rattle.binary.proofs.IndependentPowers.{free_start, pivot, free_more, free_fails, free_ends}
 use Rattle.binary.proofs.independence.independent.Goals as goal
 

@@ -1,6 +1,5 @@
 -- `binary::independence::power_rows` meets its contract: row j is x^(n j) for j below i, and a is the last of them.
 use native.Mathlib.Omega.{arith}
-use Prim.Native.Nat.{◌-◌}
 use Rattle.binary.proofs.MaskPeriod.{times_lt}
 use Rattle.binary.proofs.IndependentPowers.{held_start, held_room, held_shift, held_more, held_end}
 use Rattle.binary.proofs.independence.power_rows.Goals as goal

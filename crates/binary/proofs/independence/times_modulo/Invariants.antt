@@ -1,6 +1,6 @@
 -- `binary::independence::times_modulo` meets its contract: r is a times the coefficients of b from i on.
 use mathlib.Core.Path.{◌≡◌}
-use Prim.Native.Nat.{◌-◌, ◌/◌, ◌^◌, ◌≤◌, ◌<◌}
+use Prim.Native.Nat.{◌/◌, ◌^◌, ◌≤◌, ◌<◌}
 use Rattle.field.specs.Mask.{clmul, remainder as remainderOf}
 use Rattle.binary.specs.Factor.{Modulus}
 use Rattle.binary.proofs.independence.times_modulo.Given as goal

@@ -1,7 +1,6 @@
 -- `binary::packed::double_add` meets its contract: the first i numbers are done, and the carry is what came up.
 use native.Mathlib.Omega.{arith}
 use mathlib.Core.Path.{refl}
-use Prim.Native.Nat.{◌-◌}
 use lib.ListN.{length-set}
 use Rattle.field.proofs.Xor.{digit_lt}
 use Rattle.binary.proofs.Passing.{passing_start, passing_more, passing_end, carry_lt}

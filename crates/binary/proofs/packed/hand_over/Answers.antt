@@ -1,7 +1,6 @@
 -- `binary::packed::hand_over` meets its contract: the first i numbers are handed over.
 use native.Mathlib.Omega.{arith}
 use mathlib.Core.Path.{refl}
-use Prim.Native.Nat.{◌-◌}
 use lib.ListN.{length-set}
 use Rattle.binary.proofs.Passing.{handing_start, handing_more, handing_end}
 use Rattle.binary.proofs.packed.hand_over.Goals as goal

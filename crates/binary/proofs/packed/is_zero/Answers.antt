@@ -1,7 +1,6 @@
 -- `binary::packed::is_zero` meets its contract: the first i numbers are 0.
 use native.Mathlib.Omega.{arith}
 use mathlib.Core.Path.{refl}
-use Prim.Native.Nat.{◌-◌}
 use Rattle.binary.proofs.Passing.{empty_start, empty_more, empty_end, empty_not}
 use Rattle.binary.proofs.packed.is_zero.Goals as goal
 

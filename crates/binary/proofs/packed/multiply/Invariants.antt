@@ -1,6 +1,6 @@
 -- `binary::packed::multiply` meets its contract: the product with the coefficients of f from i on stands.
 use mathlib.Core.Path.{◌≡◌}
-use Prim.Native.Nat.{◌-◌, ◌/◌, ◌%◌, ◌^◌, ◌≤◌, ◌<◌}
+use Prim.Native.Nat.{◌/◌, ◌%◌, ◌^◌, ◌≤◌, ◌<◌}
 use lib.ListN.{length}
 use Rattle.field.specs.Mask.{clmul}
 use Rattle.binary.specs.Packed.{packed, places_in}

@@ -1,7 +1,6 @@
 -- `binary::period::period` meets its contract: a is x^p modulo f, and p is not past the period, which is below 2^u.
 use borrow.Author.Rules.{rules}
 use native.Mathlib.Omega.{arith}
-use Prim.Native.Nat.{◌-◌}
 use Rattle.binary.proofs.MaskPeriod.{modulus_two, modulus_cap, period_pos, period_lt, times_lt, count_more, count_on, count_end}
 use Rattle.binary.proofs.period.period.Goals as goal
 

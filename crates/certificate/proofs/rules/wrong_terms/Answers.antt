@@ -1,6 +1,5 @@
 -- `certificate::rules::wrong_terms` meets its contract: num is the register, at its place, and no term before is out of D.
 use native.Mathlib.Omega.{arith}
-use Prim.Native.Nat.{◌-◌}
 use Rattle.certificate.proofs.Terms.{going_start, going_more, going_wrong, going_end, num_lt, f_fits, at_lt}
 use Rattle.certificate.proofs.rules.wrong_terms.Goals as goal
 

@@ -1,6 +1,5 @@
 -- `codeword::block::deinterleave_word` meets its contract: eight places more at each turn.
 use native.Mathlib.Omega.{arith}
-use Prim.Native.Nat.{◌-◌}
 use mathlib.Core.Path.{refl}
 use lib.ListN.{length-set}
 use Rattle.codeword.proofs.Interleaving.{deinterleaving_start, deinterleaving_more, deinterleaving_end, few_bits}

@@ -1,6 +1,6 @@
 -- `codeword::block::eight_bits_apart` meets its contract: one bit more at each turn.
 use native.Mathlib.Omega.{arith}
-use Prim.Native.Nat.{◌+◌, ◌-◌, ◌*◌}
+use Prim.Native.Nat.{◌+◌, ◌*◌}
 use native.Mathlib.Nat.{mul-le-mul_right}
 use Rattle.codeword.proofs.Interleaving.{bit_lt_two, gathering_start, gathering_more, gathered_few, gathering_end}
 use Rattle.codeword.proofs.block.eight_bits_apart.Goals as goal

@@ -1,6 +1,6 @@
 -- `codeword::remainder::take_message` meets its contract: the remainder of x^m times the bits taken so far.
 use mathlib.Core.Path.{◌≡◌}
-use Prim.Native.Nat.{◌-◌, ◌*◌, ◌≤◌}
+use Prim.Native.Nat.{◌*◌, ◌≤◌}
 use lib.ListN.{length}
 use Rattle.document.specs.Layout.{message_weight, mask_of}
 use Rattle.binary.specs.Packed.{Taken}

@@ -1,6 +1,6 @@
 -- `codeword::remainder::take_word` meets its contract: the remainder of x^m times the places taken so far.
 use mathlib.Core.Path.{◌≡◌}
-use Prim.Native.Nat.{◌-◌, ◌*◌, ◌≤◌}
+use Prim.Native.Nat.{◌*◌, ◌≤◌}
 use lib.ListN.{length}
 use Rattle.document.specs.Layout.{word_weight, mask_of}
 use Rattle.binary.specs.Packed.{Taken}

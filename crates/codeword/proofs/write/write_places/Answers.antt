@@ -1,7 +1,6 @@
 -- `codeword::write::write_places` meets its contract: the places of the first j bytes stand.
 use native.Mathlib.Omega.{arith}
 use mathlib.Core.Path.{refl}
-use Prim.Native.Nat.{◌-◌}
 use lib.ListN.{length-set}
 use Rattle.codeword.proofs.Eight.{turned_lt}
 use Rattle.codeword.proofs.Words.{placing_start, placing_more, placing_end}

@@ -1,7 +1,6 @@
 -- `codeword::write::write_whole_bytes` meets its contract: the first j bytes stand.
 use native.Mathlib.Omega.{arith}
 use mathlib.Core.Path.{refl}
-use Prim.Native.Nat.{◌-◌}
 use lib.ListN.{length-set}
 use Rattle.codeword.proofs.Words.{bytes_read_start, bytes_read_more, bytes_read_end}
 use Rattle.codeword.proofs.write.write_whole_bytes.Goals as goal

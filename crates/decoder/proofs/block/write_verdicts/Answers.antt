@@ -1,6 +1,5 @@
 -- `decoder::block::write_verdicts` meets its contract: byte by byte.
 use native.Mathlib.Omega.{arith}
-use Prim.Native.Nat.{◌-◌}
 use mathlib.Core.Path.{◌∙◌, sym}
 use Rattle.decoder.proofs.Interleaved.{written_start, written_more, written_end}
 use Rattle.decoder.proofs.block.write_verdicts.Goals as goal

@@ -1,7 +1,6 @@
 -- `decoder::repair::copy` meets its contract: the first i bytes are copied.
 use native.Mathlib.Omega.{arith}
 use mathlib.Core.Path.{refl}
-use Prim.Native.Nat.{◌-◌}
 use Rattle.decoder.proofs.Repairing.{copying_start, copying_more, copying_end}
 use Rattle.decoder.proofs.repair.copy.Goals as goal
 

@@ -1,6 +1,5 @@
 -- `decoder::repair::reaches` meets its contract: the places before are below the end.
 use native.Mathlib.Omega.{arith}
-use Prim.Native.Nat.{◌-◌}
 use Rattle.decoder.proofs.Repairing.{below_start, below_more, reached_here, reached_none}
 use Rattle.decoder.proofs.repair.reaches.Goals as goal
 

@@ -1,5 +1,4 @@
 -- `decoder::trials::marked_count` meets its contract: byte by byte.
-use Prim.Native.Nat.{◌-◌}
 use native.Mathlib.Omega.{arith}
 use lib.Count.{ones-le}
 use lib.ListN.{get_or}

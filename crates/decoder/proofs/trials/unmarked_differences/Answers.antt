@@ -1,5 +1,4 @@
 -- `decoder::trials::unmarked_differences` meets its contract: byte by byte.
-use Prim.Native.Nat.{◌-◌}
 use native.Mathlib.Omega.{arith}
 use lib.Count.{ones-le}
 use Rattle.decoder.proofs.Weighing.{summed_start, summed_more, unmarked_at, unmarked_lt, unmarked_byte, unmarked_sum}

@@ -1,5 +1,4 @@
 -- `decoder::trials::write_trials` meets its contract: byte by byte.
-use Prim.Native.Nat.{◌-◌}
 use native.Mathlib.Omega.{arith}
 use lib.ListN.{length-set}
 use Rattle.decoder.proofs.Trying.{trying_start, trying_more, trying_end}

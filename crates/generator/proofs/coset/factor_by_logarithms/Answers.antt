@@ -1,7 +1,7 @@
 -- `generator::coset::factor_by_logarithms` meets its contract: the sum is the logarithm of the value over the members met, unless it vanishes.
 use native.Mathlib.Omega.{arith}
 use mathlib.Core.Path.{◌∙◌}
-use Prim.Native.Nat.{◌+◌, ◌-◌}
+use Prim.Native.Nat.{◌+◌}
 use Rattle.field.proofs.Primitive.{Degree-bounds}
 use Rattle.generator.proofs.CosetWalk.{degree_of, walking_lt}
 use Rattle.generator.proofs.CosetValue.{coset_value}

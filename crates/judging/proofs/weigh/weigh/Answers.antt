@@ -1,7 +1,7 @@
 -- `judging::weigh::weigh` meets its contract: all certificates so far pass, and the best is the working one among them.
 use native.Mathlib.Omega.{arith}
 use mathlib.Core.Path.{refl, ap, subst}
-use Prim.Native.Nat.{◌+◌, ◌-◌, ◌≤◌}
+use Prim.Native.Nat.{◌+◌, ◌≤◌}
 use Rattle.certificate.specs.Rules.{checked_as, distance_in}
 use Rattle.judging.proofs.Weighing.{weighing_start, weighing_stop, weighing_more, weighing_end, checked_same}
 use Rattle.judging.proofs.weigh.weigh.Goals as goal

@@ -1,7 +1,6 @@
 -- `listing::page::certificate_lines` meets its contract: the lines of the certificates below i are written.
 use native.Mathlib.Omega.{arith}
 use mathlib.Core.Path.{refl}
-use Prim.Native.Nat.{◌-◌}
 use Rattle.listing.specs.Accepted.{certificate_row}
 use Rattle.listing.proofs.Pieces.{rows_start, rows_more, rows_end}
 use Rattle.listing.proofs.page.certificate_lines.Goals as goal

@@ -1,7 +1,6 @@
 -- `listing::write::put_members` meets its contract: the marked places below i are written.
 use native.Mathlib.Omega.{arith}
 use mathlib.Core.Path.{refl}
-use Prim.Native.Nat.{◌-◌}
 use Rattle.listing.specs.Text.{member_in}
 use Rattle.listing.proofs.Pieces.{rows_start, rows_more, rows_end}
 use Rattle.listing.proofs.write.put_members.Goals as goal

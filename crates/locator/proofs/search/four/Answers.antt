@@ -1,6 +1,5 @@
 -- `locator::search::four` meets its contract: the first m terms are in all four sums.
 use native.Mathlib.Omega.{arith}
-use Prim.Native.Nat.{◌-◌}
 use Rattle.field.proofs.Primitive.{Degree-bounds}
 use Rattle.locator.proofs.Neighbours.{neighbours_start, neighbours_more, neighbours_end}
 use Rattle.locator.proofs.search.four.Goals as goal

@@ -1,6 +1,5 @@
 -- `locator::search::lanes_vanish` meets its contract: the first m terms are in the two sums.
 use native.Mathlib.Omega.{arith}
-use Prim.Native.Nat.{◌-◌}
 use Rattle.locator.proofs.TermSums.{both_start, both_more, weight_fits, hit_not, hit_low}
 use Rattle.locator.proofs.search.lanes_vanish.Goals as goal
 

@@ -1,7 +1,6 @@
 -- `locator::search::search` meets its contract: the first i places are searched, and at most t of them found.
 use native.Mathlib.Omega.{arith}
 use mathlib.Core.Path.{refl}
-use Prim.Native.Nat.{◌-◌}
 use Rattle.locator.proofs.Finding.{noted_le, finding_start, finding_more, finding_all, finding_many}
 use Rattle.locator.proofs.search.search.Goals as goal
 

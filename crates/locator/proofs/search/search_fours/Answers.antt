@@ -1,6 +1,5 @@
 -- `locator::search::search_fours` meets its contract: the places below n of the first i are searched, and at most t of them found.
 use native.Mathlib.Omega.{arith}
-use Prim.Native.Nat.{◌-◌}
 use Rattle.locator.proofs.Finding.{noted_below_le}
 use Rattle.locator.proofs.Neighbours.{fours_start, fours_length, fours_more, fours_many, fours_all}
 use Rattle.locator.proofs.search.search_fours.Goals as goal

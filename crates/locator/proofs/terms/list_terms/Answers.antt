@@ -1,6 +1,5 @@
 -- `locator::terms::list_terms` meets its contract: the first k coefficients are listed.
 use native.Mathlib.Omega.{arith}
-use Prim.Native.Nat.{◌-◌}
 use Rattle.field.proofs.Primitive.{Degree-bounds}
 use Rattle.binary.proofs.MaskPeriod.{modulus_two, times_lt}
 use Rattle.locator.proofs.Walking.{loop_start, loop_more, loop_end}

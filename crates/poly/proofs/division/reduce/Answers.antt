@@ -1,7 +1,6 @@
 -- `poly::division::reduce` meets its contract: terms of the quotient are added until the remainder is shorter than the divisor.
 use native.Mathlib.Omega.{arith}
 use mathlib.Core.Path.{refl, sym, ap, ◌∙◌}
-use Prim.Native.Nat.{◌-◌}
 use Rattle.field.specs.Field.{values_of}
 use Rattle.field.proofs.Shifts.{inverse_lt}
 use Rattle.poly.proofs.Reducing.{inverse_there, inverse_at, reduced_none, reduced_more, reducible_on}

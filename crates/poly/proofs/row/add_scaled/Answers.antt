@@ -1,6 +1,5 @@
 -- `poly::row::add_scaled` meets its contract: j coefficients are added.
 use native.Mathlib.Omega.{arith}
-use Prim.Native.Nat.{◌-◌}
 use mathlib.Core.Path.{refl}
 use Rattle.field.proofs.Numbers.{product_lt}
 use Rattle.poly.proofs.Adding.{adding_start, adding_more, adding_end}

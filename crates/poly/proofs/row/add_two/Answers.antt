@@ -1,6 +1,5 @@
 -- `poly::row::add_two` meets its contract: j coefficients of either multiple are added but the one that waits.
 use native.Mathlib.Omega.{arith}
-use Prim.Native.Nat.{◌-◌}
 use mathlib.Core.Path.{refl}
 use lib.ListN.{length-set}
 use Rattle.poly.proofs.Adding.{adding_two_start, adding_two_more, adding_two_end}

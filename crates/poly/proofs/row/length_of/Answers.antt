@@ -1,6 +1,5 @@
 -- `poly::row::length_of` meets its contract: all places from k on hold 0.
 use native.Mathlib.Omega.{arith}
-use Prim.Native.Nat.{◌-◌}
 use mathlib.Core.Path.{◌≡◌}
 use Rattle.poly.proofs.Slices.{short_less}
 use Rattle.poly.proofs.row.length_of.Goals as goal

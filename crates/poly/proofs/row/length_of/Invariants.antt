@@ -1,5 +1,5 @@
 -- `poly::row::length_of` meets its contract: all places from k on hold 0.
-use Prim.Native.Nat.{◌-◌, ◌≤◌}
+use Prim.Native.Nat.{◌≤◌}
 use Rattle.poly.specs.Slice.{Short}
 use Rattle.poly.proofs.row.length_of.Given as goal
 

@@ -1,7 +1,6 @@
 -- `sheet::cosets::mark` meets its contract: x is r 2^j, and the members met so far are marked and compared.
 use native.Mathlib.Omega.{arith}
 use mathlib.Core.Path.{refl}
-use Prim.Native.Nat.{◌-◌}
 use lib.ListN.{length-set}
 use Rattle.field.proofs.OrderOfTwo.{order_lt, count_lt}
 use Rattle.sheet.proofs.Marking.{turned_start, turned_more, turned_end}

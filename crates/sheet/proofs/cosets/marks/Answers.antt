@@ -1,7 +1,7 @@
 -- `sheet::cosets::marks` meets its contract: the sum so far.
 use native.Mathlib.Omega.{arith}
 use mathlib.Core.Path.{◌≡◌, sym}
-use Prim.Native.Nat.{ℕ, ◌-◌}
+use Prim.Native.Nat.{ℕ}
 use lib.ListN.{get_or}
 use Rattle.field.proofs.Search.{total_z, total_more}
 use Rattle.sheet.proofs.cosets.marks.Goals as goal

@@ -1,7 +1,6 @@
 -- `sheet::cosets::wrong_representative` meets its contract: the representatives so far are right, and their cosets marked.
 use native.Mathlib.Omega.{arith}
 use mathlib.Core.Path.{refl, ◌∙◌}
-use Prim.Native.Nat.{◌-◌}
 use Rattle.sheet.proofs.Listed.{walk_start, walk_range, walk_order, walk_mark, walk_coset, walk_more, walk_end}
 use Rattle.sheet.proofs.cosets.wrong_representative.Goals as goal
 

@@ -1,7 +1,6 @@
 -- `sheet::read::read_certificates` meets its contract: the first i certificates are copied.
 use native.Mathlib.Omega.{arith}
 use mathlib.Core.Path.{refl, ◌∙◌}
-use Prim.Native.Nat.{◌-◌}
 use Rattle.document.specs.Short.{short}
 use Rattle.document.proofs.Stated.{certificates_length}
 use Rattle.sheet.proofs.Reading.{certificates_start, certificates_more, certificates_end}

@@ -1,7 +1,7 @@
 -- `sheet::read::read_representatives` meets its contract: the first i bytes from byte 10 on are copied.
 use native.Mathlib.Omega.{arith}
 use mathlib.Core.Path.{refl}
-use Prim.Native.Nat.{◌+◌, ◌-◌}
+use Prim.Native.Nat.{◌+◌}
 use lib.ListN.{length-set}
 use Rattle.document.specs.Short.{short}
 use Rattle.document.proofs.Stated.{representatives_length}

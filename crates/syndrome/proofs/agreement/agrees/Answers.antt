@@ -1,7 +1,7 @@
 -- `syndrome::agreement::agrees` meets its contract: the listed places have the word's value at each representative before.
 use native.Mathlib.Omega.{arith}
 use mathlib.Core.Path.{refl, ap}
-use Prim.Native.Nat.{ℕ, ◌-◌, ◌/◌, ◌^◌, ◌≤◌}
+use Prim.Native.Nat.{ℕ, ◌/◌, ◌^◌, ◌≤◌}
 use lib.Pow.{pow_mono}
 use Rattle.syndrome.proofs.Setting.{by_lt}
 use Rattle.syndrome.proofs.Comparing.{valuable, value_of_places, comparing_start, comparing_more, comparing_end, comparing_wrong}

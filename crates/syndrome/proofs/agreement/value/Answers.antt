@@ -1,6 +1,5 @@
 -- `syndrome::agreement::value` meets its contract: the first k places of the list are in the sum.
 use native.Mathlib.Omega.{arith}
-use Prim.Native.Nat.{◌-◌}
 use Rattle.syndrome.proofs.ValueSums.{valuing_start, valuing_more, valuing_end}
 use Rattle.syndrome.proofs.agreement.value.Goals as goal
 

@@ -1,7 +1,7 @@
 -- `syndrome::columns::fill_columns` meets its contract: the first i columns are written, i even.
 use native.Mathlib.Omega.{arith}
 use mathlib.Core.Path.{refl}
-use Prim.Native.Nat.{◌+◌, ◌-◌}
+use Prim.Native.Nat.{◌+◌}
 use lib.ListN.{length-set}
 use Rattle.syndrome.proofs.Columning.{places_in, columning_start, columning_two, columning_end}
 use Rattle.syndrome.proofs.columns.fill_columns.Goals as goal

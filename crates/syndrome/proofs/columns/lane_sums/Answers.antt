@@ -1,7 +1,7 @@
 -- `syndrome::columns::lane_sums` meets its contract: the first i columns are in the sums, i even.
 use native.Mathlib.Omega.{arith}
 use mathlib.Core.Path.{refl, ◌∙◌}
-use Prim.Native.Nat.{◌+◌, ◌-◌, ◌*◌}
+use Prim.Native.Nat.{◌+◌, ◌*◌}
 use Rattle.field.proofs.Primitive.{Degree-bounds}
 use Rattle.field.proofs.Exponents.{looked}
 use Rattle.syndrome.proofs.Columning.{summing_start, summing_two, summing_end, looked_four, four_lt, power_fits}

@@ -1,7 +1,6 @@
 -- `syndrome::syndromes::syndromes` meets its contract: num is the register, at its place, and the syndromes before are written.
 use native.Mathlib.Omega.{arith}
 use mathlib.Core.Path.{refl}
-use Prim.Native.Nat.{◌-◌}
 use lib.ListN.{length-set}
 use Rattle.certificate.proofs.Terms.{at_start, at_more, num_lt, f_fits, at_lt}
 use Rattle.syndrome.proofs.Terms.{writing_start, writing_more, writing_end}

@@ -1,7 +1,6 @@
 -- `syndrome::values::conjugates` meets its contract: the first j members hold their values, and y is that of the next.
 use native.Mathlib.Omega.{arith}
 use mathlib.Core.Path.{refl}
-use Prim.Native.Nat.{◌-◌}
 use lib.ListN.{length-set}
 use Rattle.field.proofs.OrderOfTwo.{count_lt}
 use Rattle.syndrome.proofs.Squares.{turning_start, turning_more, turning_end}

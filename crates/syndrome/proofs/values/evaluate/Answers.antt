@@ -1,6 +1,5 @@
 -- `syndrome::values::evaluate` meets its contract: the first k representatives hold their values.
 use native.Mathlib.Omega.{arith}
-use Prim.Native.Nat.{◌-◌}
 use Rattle.codeword.proofs.Places.{places_length}
 use Rattle.syndrome.proofs.Computing.{width_is, columnable, values_start, values_summable, values_by, values_in, values_more, values_end}
 use Rattle.syndrome.proofs.values.evaluate.Goals as goal

@@ -1,7 +1,6 @@
 -- `syndrome::values::extend` meets its contract: the cosets of the first k representatives hold their values.
 use native.Mathlib.Omega.{arith}
 use mathlib.Core.Path.{refl}
-use Prim.Native.Nat.{◌-◌}
 use Rattle.syndrome.proofs.Extending.{extending_start, extending_more, extending_end, conjugable}
 use Rattle.syndrome.proofs.values.extend.Goals as goal
 

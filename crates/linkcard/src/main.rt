@@ -1,6 +1,8 @@
 // linkcard: a code sheet from standard input, its listing to standard output.
-use libc::{STDIN_FILENO, STDOUT_FILENO};
+#![tactic(auto)]
 
-fn main() {
-    stream::list_sheet(STDIN_FILENO, STDOUT_FILENO);
+use std::io;
+
+fn main(rt: HostRuntime) -> io::Result<()> {
+    stream::list_sheet(&mut rt.stdin(), &mut rt.stdout())
 }

@@ -5,7 +5,7 @@
 use mathlib.Core.Path.{◌≡◌, refl}
 use mathlib.Core.List.{[], ◌∷◌, ◌++◌}
 use lib.ListN.{replicate}
-use Rattle.document.specs.Answer.{returned, first_of, settle}
+use Rattle.document.specs.Answer.{returned, first_of, settle_in}
 use Rattle.link.specs.History.{refused_by, changed_by, count, last_words, refused_in, changed_in, reset, report}
 use Rattle.link.specs.Health.{state_conditions, changed_total, stored, reported, health_reset_of, health_report_of, health_refused_of, health_changed_of}
 use Rattle.link.specs.Health.{state_after}
@@ -20,5 +20,5 @@ words_many = (refl, refl)
 
 pub run : (health_refused_of (state_after (replicate 68 9) (reset ∷ report 3 ∷ report 255 ∷ [])) ≡ returned (1 ∷ []))
     × (health_changed_of (state_after (replicate 68 9) (reset ∷ report 3 ∷ report 255 ∷ [])) ≡ returned (3 ∷ []))
-unfolding health_refused_of health_changed_of state_after health_reset_of health_report_of reported stored changed_total state_conditions first_of settle refused_by changed_by
+unfolding health_refused_of health_changed_of state_after health_reset_of health_report_of reported stored changed_total state_conditions first_of settle_in refused_by changed_by
 run = (refl, refl)

@@ -16,7 +16,7 @@ use native.Mathlib.Decide.{ℕ_discrete}
 use native.Mathlib.Omega.{arith}
 use lib.ListN.{length, get_or, drop, replicate, drop_of_length-le}
 use borrow.Author.Tests.{eq-eqb, ne_eqb}
-use Rattle.document.specs.Answer.{Answer, returned, refused, first_of, settle}
+use Rattle.document.specs.Answer.{Answer, returned, refused, first_of, settle_in}
 use Rattle.link.specs.History.{refused_by, changed_by}
 use Rattle.link.specs.Health.{state_conditions, changed_total, stored, reported, health_reset_of, health_report_of, health_refused_of, health_changed_of}
 
@@ -45,13 +45,13 @@ unfolding first_of state_conditions
 size_right s h = ap (λ (b : Bool). first_of ((11, not b) ∷ [])) (eq-eqb (length s) 68 h)
 
 module _ (s v w : List ℕ) where
-  pub answer_wrong : length s ≢ 68 → (refused 11, s) ≡ settle (first_of (state_conditions s)) v w s
-  unfolding settle
-  answer_wrong h = sym (ap (λ (x : ℕ). settle x v w s) (size_wrong s h))
+  pub answer_wrong : length s ≢ 68 → (refused 11, s) ≡ settle_in (first_of (state_conditions s)) v w s
+  unfolding settle_in
+  answer_wrong h = sym (ap (λ (x : ℕ). settle_in x v w s) (size_wrong s h))
 
-  pub answer_right : length s ≡ 68 → (returned v, w) ≡ settle (first_of (state_conditions s)) v w s
-  unfolding settle
-  answer_right h = sym (ap (λ (x : ℕ). settle x v w s) (size_right s h))
+  pub answer_right : length s ≡ 68 → (returned v, w) ≡ settle_in (first_of (state_conditions s)) v w s
+  unfolding settle_in
+  answer_right h = sym (ap (λ (x : ℕ). settle_in x v w s) (size_right s h))
 
 -- ---- reset
 pub reset_wrong : (s : List ℕ) → length s ≢ 68 → (refused 11, s) ≡ health_reset_of s

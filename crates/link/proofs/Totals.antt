@@ -52,7 +52,11 @@ module _ (by : ℕ → ℕ) where
   count_le : (m : ℕ) → ((r : ℕ) → r < 256 → by r ≤ m) → (k : ℕ) {h : History} → All Byte h → count by (drop k h) ≤ (length h - k) * m
   unfolding count
   count_le m b zero none = omega arith
-  count_le m b zero (more {b = r} {l = h} c bs) = omega (arith, suc-mul (length h) m, b r c, count_le m b zero bs)
+  count_le m b zero (more {b = r} {l = h} c bs) =
+      let e : suc (length h) - zero ≡ suc (length h) = omega arith in
+      let f : length h - zero ≡ length h = omega arith in
+      let rest : count by h ≤ length h * m = subst (λ n. count by h ≤ n * m) f (count_le m b zero bs) in
+      subst (λ n. by r + count by h ≤ n * m) (sym e) (omega (arith, suc-mul (length h) m, b r c, rest))
   count_le m b (suc k) none = omega arith
   count_le m b (suc k) (more {l = h} c bs) =
       let e : suc (length h) - suc k ≡ length h - k = omega arith in
@@ -251,9 +255,9 @@ pub tracks_after : {h : History} {s : List ℕ} → Tracks h s → All Byte h �
     → Tracks (history_after h calls) (state_after s calls)
 unfolding history_after state_after
 tracks_after t bs none = t
-tracks_after {s = s} t bs (more {b = reset} c cs) = tracks_after (subst (Tracks []) (reset_state s t.long) tracks_fresh) none cs
-tracks_after {h} {s} t bs (more {b = report r} c cs) =
-    tracks_after (subst (Tracks (h ++ (r ∷ []))) (report_state s r t.long) (tracks_report t r c bs)) (bytes_more bs c) cs
+tracks_after {h = h} {s = s} t bs (more {b = reset} c cs) = tracks_after {h = []} (subst (Tracks []) (reset_state s t.long) tracks_fresh) none cs
+tracks_after {h = h} {s = s} t bs (more {b = report r} c cs) =
+    tracks_after {h = h ++ (r ∷ [])} (subst (Tracks (h ++ (r ∷ []))) (report_state s r t.long) (tracks_report t r c bs)) (bytes_more bs c) cs
 
 -- "After a reset and any reports, each on the state the call before left, the two totals equal a fresh count over that history's last
 -- words." For every state that was lent, and with resets among the reports.

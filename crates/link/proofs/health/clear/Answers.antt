@@ -2,7 +2,7 @@
 use native.Mathlib.Omega.{arith}
 use mathlib.Core.Path.{refl, ap, ◌∙◌}
 use mathlib.Core.List.{List}
-use Prim.Native.Nat.{ℕ, ◌-◌}
+use Prim.Native.Nat.{ℕ}
 use lib.ListN.{length-set, set}
 use borrow.Author.Fill.{fill_more}
 use Rattle.link.proofs.Exits.{filled}
@@ -11,20 +11,8 @@ use Rattle.link.proofs.health.clear.Goals as goal
 pub loop-i-init : goal.loop-i-init
 loop-i-init c = (c.requires, refl, omega arith, refl)
 
-pub bounds-state-i : goal.bounds-state-i
-bounds-state-i c = omega arith
-
-pub overflow_add-i : goal.overflow_add-i
-overflow_add-i c = omega arith
-
-pub loop-i-smaller : goal.loop-i-smaller
-loop-i-smaller c = omega arith
-
 pub loop-i-preserved : goal.loop-i-preserved
 loop-i-preserved c = let v = c.loop-i.invariant in (v.0, simp length-set v.1, omega arith, ap (λ (l : List ℕ). set l c.loop-i.i 0) v.3 ∙ fill_more c.loop-i.i 0 c.args.state.now (omega (arith, v.0)))
-
-pub shape_of-state : goal.shape_of-state
-shape_of-state c = c.loop-i.invariant.1
 
 pub returns : goal.returns
 returns c = let v = c.loop-i.invariant in filled c.args.state.now c.loop-i.i c.args.n v.3 (omega (arith, v.2))

@@ -7,10 +7,10 @@ pub returns-then-state-ne-STATE_BYTES : goal.returns-then-state-ne-STATE_BYTES
 returns-then-state-ne-STATE_BYTES c = report_wrong _ _ c.if-state-ne-STATE_BYTES.true
 
 pub overflow_add-wide : goal.overflow_add-wide
-overflow_add-wide c = omega (arith, refused_by_le c.args.report, c.slice_known-4-1.given 65)
+overflow_add-wide c = omega (arith, refused_by_le c.args.report)
 
 pub overflow_add-changed_total : goal.overflow_add-changed_total
-overflow_add-changed_total c = omega (arith, changed_by_le c.args.report c.ranges.report.fits, total_lt c.args.state.now (omega (arith, c.slice_known-1.given 66)) (omega (arith, c.slice_known-1.given 67)))
+overflow_add-changed_total c = search (arith, changed_by_le, total_lt)
 
 pub returns : goal.returns
 returns c = report_right _ _ c.if-state-ne-STATE_BYTES.false (reported_is _ _ c.store.ensures c.ring_place-i.ensures c.wide.ensures c.refused_by.ensures c.refused_by-2.ensures c.less-refused.ensures c.changed_total.ensures c.changed_by.ensures c.changed_by-2.ensures c.less-changed.ensures)

@@ -1,5 +1,6 @@
 // 10,000 words of length 127 with 10 errors each are decoded, and each answer is held to the codeword that the errors hit: the
 // run whose duration tools/bench records.
+#![tactic(auto)]
 
 // messages and places of errors
 mod draw;
@@ -14,9 +15,9 @@ use code::decode::decode;
 use code::encode::encode;
 use document::types::Reply;
 use draw::{draw_message, draw_places, in_order};
-use libc::STDOUT_FILENO;
+use std::io;
 
-fn main() {
+fn main(rt: HostRuntime) -> io::Result<()> {
     // The BCH code (127, 64) with d = 21, t = 10: representatives 1 3 5 7 9 11 13 15 19; b 1, z 1, f 3, h 1, L 20.
     let sheet =
         b"\x1b\0\x7f\x09\x0a\0\x01\0\x13\0\x01\x03\x05\x07\x09\x0b\x0d\x0f\x13\x01\x01\x03\0\x01\0\x14\0";
@@ -29,8 +30,7 @@ fn main() {
         state = draw_places(x, &mut places);
         right = right + corrected(sheet, &message, &places);
     }
-    io::print_decimal(STDOUT_FILENO, right);
-    io::write_all(STDOUT_FILENO, b" of 10000 words right\n");
+    println!(rt; "{right} of 10000 words right")
 }
 
 // 1 where the message's codeword comes back from a word with errors at the first ten places, and else 0.

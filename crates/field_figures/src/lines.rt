@@ -7,19 +7,20 @@ use crate::products::Sums;
 use crate::{elements, products, walk};
 use field::order::order_of_two;
 use field::product::mask;
-use libc::STDOUT_FILENO;
+use std::io;
+use std::io::Write;
 
-fn number(label: &[u8], n: u64) {
-    io::write_all(STDOUT_FILENO, label);
-    io::print_decimal(STDOUT_FILENO, n);
+fn number(rt: &impl Print, label: &[u8], n: u64) -> io::Result<()> {
+    io::writer(rt).write_all(label)?;
+    print!(rt; "{n}")
 }
 
-fn begin(s: usize) {
-    number(b"degree ", s as u64);
+fn begin(rt: &impl Print, s: usize) -> io::Result<()> {
+    number(rt, b"degree ", s as u64)
 }
 
-fn end() {
-    io::write_all(STDOUT_FILENO, b"\n");
+fn end(rt: &impl Print) -> io::Result<()> {
+    print!(rt; "\n")
 }
 
 // All products where there are few enough, else those of the sample.
@@ -36,15 +37,15 @@ fn product_sums(s: usize) -> Sums
     }
 }
 
-pub fn product_line(s: usize)
+pub fn product_line(rt: &impl Print, s: usize) -> io::Result<()>
     requires { Degree s }
 {
     let sums = product_sums(s);
-    begin(s);
-    number(b" mask ", mask(s) as u64);
-    number(b" products ", sums.shifts);
-    number(b" tables ", sums.tables);
-    end();
+    begin(rt, s)?;
+    number(rt, b" mask ", mask(s) as u64)?;
+    number(rt, b" products ", sums.shifts)?;
+    number(rt, b" tables ", sums.tables)?;
+    end(rt)
 }
 
 #[derive(Clone, Copy)]
@@ -67,28 +68,28 @@ fn table_sums(s: usize) -> TableSums
     }
 }
 
-pub fn element_line(s: usize)
+pub fn element_line(rt: &impl Print, s: usize) -> io::Result<()>
     requires { Degree s }
 {
     let sums = table_sums(s);
-    begin(s);
-    number(b" powers ", sums.powers);
-    number(b" logs ", sums.logs);
-    number(b" inverses ", sums.inverses);
-    number(b" order ", elements::order(s));
-    end();
+    begin(rt, s)?;
+    number(rt, b" powers ", sums.powers)?;
+    number(rt, b" logs ", sums.logs)?;
+    number(rt, b" inverses ", sums.inverses)?;
+    number(rt, b" order ", elements::order(s))?;
+    end(rt)
 }
 
-pub fn polynomial_line(s: usize)
+pub fn polynomial_line(rt: &impl Print, s: usize) -> io::Result<()>
     requires { Degree s }
 {
     let m = mask(s);
     let counts = walk::below(s, m);
-    begin(s);
-    number(b" smaller ", counts.masks);
-    number(b" primitive ", counts.primitive);
-    number(b" own ", walk::primitive(s, m));
-    end();
+    begin(rt, s)?;
+    number(rt, b" smaller ", counts.masks)?;
+    number(rt, b" primitive ", counts.primitive)?;
+    number(rt, b" own ", walk::primitive(s, m))?;
+    end(rt)
 }
 
 // The order of 2 for every odd length from 3 to 127.
@@ -104,7 +105,7 @@ fn length_sum() -> u64
     h
 }
 
-pub fn length_line() {
-    number(b"lengths ", length_sum());
-    end();
+pub fn length_line(rt: &impl Print) -> io::Result<()> {
+    number(rt, b"lengths ", length_sum())?;
+    end(rt)
 }

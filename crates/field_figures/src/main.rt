@@ -17,33 +17,38 @@ mod walk;
 // the lines of figures
 mod lines;
 
-fn main() {
-    product_lines();
-    element_lines();
-    polynomial_lines();
-    lines::length_line();
+use std::io;
+
+fn main(rt: HostRuntime) -> io::Result<()> {
+    product_lines(&rt)?;
+    element_lines(&rt)?;
+    polynomial_lines(&rt)?;
+    lines::length_line(&rt)
 }
 
-fn product_lines() {
+fn product_lines(rt: &impl Print) -> io::Result<()> {
     let mut s = 2usize;
     while s <= 12 {
-        lines::product_line(s);
+        lines::product_line(rt, s)?;
         s = s + 1;
     }
+    Ok(())
 }
 
-fn element_lines() {
+fn element_lines(rt: &impl Print) -> io::Result<()> {
     let mut s = 2usize;
     while s <= 12 {
-        lines::element_line(s);
+        lines::element_line(rt, s)?;
         s = s + 1;
     }
+    Ok(())
 }
 
-fn polynomial_lines() {
+fn polynomial_lines(rt: &impl Print) -> io::Result<()> {
     let mut s = 2usize;
     while s <= 12 {
-        lines::polynomial_line(s);
+        lines::polynomial_line(rt, s)?;
         s = s + 1;
     }
+    Ok(())
 }

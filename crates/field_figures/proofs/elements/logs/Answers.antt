@@ -1,5 +1,4 @@
 -- `field_figures::elements::logs` meets its contract: the checksum stays below its modulus.
-use Prim.Native.Nat.{◌-◌}
 use Rattle.field_figures.proofs.elements.logs.Goals as goal
 
 pub size-end-requires : goal.size-end-requires

@@ -1,6 +1,5 @@
 -- `field_figures::lines::length_sum` meets its contract: the order of 2 is below the length.
 use native.Mathlib.Omega.{arith}
-use Prim.Native.Nat.{◌-◌}
 use Rattle.field.proofs.OrderOfTwo.{order_lt}
 use Rattle.field_figures.proofs.lines.length_sum.Goals as goal
 

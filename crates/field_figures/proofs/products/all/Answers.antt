@@ -1,5 +1,4 @@
 -- `field_figures::products::all` meets its contract: the checksums stay below their modulus.
-use Prim.Native.Nat.{◌-◌}
 use Rattle.field_figures.proofs.products.all.Goals as goal
 
 pub size-end-requires : goal.size-end-requires

@@ -12,8 +12,7 @@ use crate::codes::refusal_code;
 use document::types::{MarkedReply, Reply};
 
 // The codeword of a message into out.
-#[unsafe(no_mangle)]
-pub extern "C" fn dunefork_encode(sheet: &[u8], message: &[u8], out: &mut [u8]) -> i32
+pub fn dunefork_encode(sheet: &[u8], message: &[u8], out: &mut [u8]) -> i32
     ensures { (result, out.new) ≡ coded_as (encode_of sheet.now message.now out.old) }
 {
     let reply = code::encode::encode(sheet, message, out);
@@ -24,8 +23,7 @@ pub extern "C" fn dunefork_encode(sheet: &[u8], message: &[u8], out: &mut [u8]) 
 }
 
 // The message of a codeword into out.
-#[unsafe(no_mangle)]
-pub extern "C" fn dunefork_read(sheet: &[u8], word: &[u8], out: &mut [u8]) -> i32
+pub fn dunefork_read(sheet: &[u8], word: &[u8], out: &mut [u8]) -> i32
     ensures { (result, out.new) ≡ coded_as (read_of sheet.now word.now out.old) }
 {
     let reply = code::read::read(sheet, word, out);
@@ -36,8 +34,7 @@ pub extern "C" fn dunefork_read(sheet: &[u8], word: &[u8], out: &mut [u8]) -> i3
 }
 
 // The codeword within t places of a received word into out; how many places changed.
-#[unsafe(no_mangle)]
-pub extern "C" fn dunefork_decode(sheet: &[u8], word: &[u8], out: &mut [u8]) -> i32
+pub fn dunefork_decode(sheet: &[u8], word: &[u8], out: &mut [u8]) -> i32
     ensures { (result, out.new) ≡ coded_as (decode_of sheet.now word.now out.old) }
 {
     let reply = code::decode::decode(sheet, word, out);
@@ -48,8 +45,7 @@ pub extern "C" fn dunefork_decode(sheet: &[u8], word: &[u8], out: &mut [u8]) -> 
 }
 
 // The same three for a code shortened by m: messages of k - m bits, and words of n - m places.
-#[unsafe(no_mangle)]
-pub extern "C" fn dunefork_encode_short(
+pub fn dunefork_encode_short(
     sheet: &[u8],
     m: usize,
     message: &[u8],
@@ -64,8 +60,7 @@ pub extern "C" fn dunefork_encode_short(
     }
 }
 
-#[unsafe(no_mangle)]
-pub extern "C" fn dunefork_read_short(sheet: &[u8], m: usize, word: &[u8], out: &mut [u8]) -> i32
+pub fn dunefork_read_short(sheet: &[u8], m: usize, word: &[u8], out: &mut [u8]) -> i32
     ensures { (result, out.new) ≡ coded_as (read_shortened_of sheet.now m word.now out.old) }
 {
     let reply = code::read::read_short(sheet, m, word, out);
@@ -75,8 +70,7 @@ pub extern "C" fn dunefork_read_short(sheet: &[u8], m: usize, word: &[u8], out: 
     }
 }
 
-#[unsafe(no_mangle)]
-pub extern "C" fn dunefork_decode_short(sheet: &[u8], m: usize, word: &[u8], out: &mut [u8]) -> i32
+pub fn dunefork_decode_short(sheet: &[u8], m: usize, word: &[u8], out: &mut [u8]) -> i32
     ensures { (result, out.new) ≡ coded_as (decode_shortened_of sheet.now m word.now out.old) }
 {
     let reply = code::decode::decode_short(sheet, m, word, out);
@@ -87,8 +81,7 @@ pub extern "C" fn dunefork_decode_short(sheet: &[u8], m: usize, word: &[u8], out
 }
 
 // Both decoded trial words of a received word with marked places; 2·e + trial.
-#[unsafe(no_mangle)]
-pub extern "C" fn dunefork_decode_marked(
+pub fn dunefork_decode_marked(
     sheet: &[u8],
     word: &[u8],
     marks: &[u8],
@@ -105,8 +98,7 @@ pub extern "C" fn dunefork_decode_marked(
 }
 
 // How long the part of a trial buffer is that is shown. An exported function cannot return the part itself.
-#[unsafe(no_mangle)]
-pub extern "C" fn dunefork_shown_length<'a>(
+pub fn dunefork_shown_length<'a>(
     trial: usize,
     n: usize,
     zeros: &'a [u8],
@@ -119,8 +111,7 @@ pub extern "C" fn dunefork_shown_length<'a>(
 }
 
 // A block of m words: each corrected word into its own bytes of out, and a verdict for each.
-#[unsafe(no_mangle)]
-pub extern "C" fn dunefork_decode_block(
+pub fn dunefork_decode_block(
     sheet: &[u8],
     m: usize,
     block: &[u8],
@@ -137,8 +128,7 @@ pub extern "C" fn dunefork_decode_block(
 }
 
 // The listing of a sheet, refused ones too, into out; its length.
-#[unsafe(no_mangle)]
-pub extern "C" fn dunefork_card(sheet: &[u8], out: &mut [u8]) -> i32
+pub fn dunefork_card(sheet: &[u8], out: &mut [u8]) -> i32
     ensures { (result, out.new) ≡ coded_as (card_of sheet.now out.old) }
 {
     let reply = code::card::card(sheet, out);

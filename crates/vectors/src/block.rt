@@ -2,16 +2,17 @@
 use crate::line::{eight_bytes, hex, wide};
 use crate::words::reply_words;
 use code::block::decode_block;
-use libc::STDOUT_FILENO;
+use std::io;
 
 // The input is m, eight bytes, and the length of the output, two, the low one first; that of the verdicts, a byte; then the block.
-pub fn block_line(sheet: &[u8], input: &[u8]) {
+pub fn block_line(rt: &impl Print, sheet: &[u8], input: &[u8]) -> io::Result<()> {
     if input.len() < 11 {
-        return;
+        return Ok(());
     }
     let mut out = [170u8; 300];
     let mut verdicts = [85u8; 20];
     lent_line(
+        rt,
         sheet,
         eight_bytes(input, 0),
         &input[11..],
@@ -19,10 +20,11 @@ pub fn block_line(sheet: &[u8], input: &[u8]) {
         wide(input[8]) + 256 * wide(input[9]),
         &mut verdicts,
         wide(input[10]),
-    );
+    )
 }
 
 fn lent_line(
+    rt: &impl Print,
     sheet: &[u8],
     m: usize,
     block: &[u8],
@@ -30,12 +32,12 @@ fn lent_line(
     out_length: usize,
     verdicts: &mut [u8],
     verdicts_length: usize,
-) {
+) -> io::Result<()> {
     if out.len() < out_length {
-        return;
+        return Ok(());
     }
     if verdicts.len() < verdicts_length {
-        return;
+        return Ok(());
     }
     let reply = decode_block(
         sheet,
@@ -44,10 +46,10 @@ fn lent_line(
         &mut out[..out_length],
         &mut verdicts[..verdicts_length],
     );
-    io::write_all(STDOUT_FILENO, b"decode_block");
-    reply_words(reply);
-    hex(out, out_length);
-    io::write_all(STDOUT_FILENO, b" ");
-    hex(verdicts, verdicts_length);
-    io::write_all(STDOUT_FILENO, b"\n");
+    print!(rt; "decode_block")?;
+    reply_words(rt, reply)?;
+    hex(rt, out, out_length)?;
+    print!(rt; " ")?;
+    hex(rt, verdicts, verdicts_length)?;
+    println!(rt)
 }

@@ -7,40 +7,46 @@ use crate::sheets::write_part;
 use code::card::card;
 use code::refusal::refusal_number;
 use document::types::Reply;
-use libc::STDOUT_FILENO;
+use std::io;
 
 // The input is the buffer's length, two bytes, the low one first; 1,280 at most.
-pub fn card_lines(sheet: &[u8], input: &[u8]) {
+pub fn card_lines(rt: &impl Print, sheet: &[u8], input: &[u8]) -> io::Result<()> {
     if input.len() < 2 {
-        return;
+        return Ok(());
     }
     let mut out = [170u8; 1280];
     let length = wide(input[0]) + 256 * wide(input[1]);
-    lent_lines(sheet, &mut out, length);
+    lent_lines(rt, sheet, &mut out, length)
 }
 
-fn lent_lines(sheet: &[u8], out: &mut [u8], length: usize) {
+fn lent_lines(rt: &impl Print, sheet: &[u8], out: &mut [u8], length: usize) -> io::Result<()> {
     if out.len() < length {
-        return;
+        return Ok(());
     }
     let reply = card(sheet, &mut out[..length]);
-    reply_lines(reply, &out[..length]);
+    reply_lines(rt, reply, &out[..length])
 }
 
-fn reply_lines(reply: Reply, lent: &[u8]) {
+fn reply_lines(rt: &impl Print, reply: Reply, lent: &[u8]) -> io::Result<()> {
     match reply {
         Reply::Done(size) => {
-            first_line(b"card returned ", size, lent, size);
-            write_part(lent, size);
+            first_line(rt, b"card returned ", size, lent, size)?;
+            write_part(rt, lent, size)
         }
-        Reply::Refused(r) => first_line(b"card refused ", refusal_number(r), lent, 0),
+        Reply::Refused(r) => first_line(rt, b"card refused ", refusal_number(r), lent, 0),
     }
 }
 
-fn first_line(label: &[u8], told: usize, lent: &[u8], start: usize) {
-    number(label, told);
-    number(b" then aa ", untouched(lent, start));
-    io::write_all(STDOUT_FILENO, b"\n");
+fn first_line(
+    rt: &impl Print,
+    label: &[u8],
+    told: usize,
+    lent: &[u8],
+    start: usize,
+) -> io::Result<()> {
+    number(rt, label, told)?;
+    number(rt, b" then aa ", untouched(lent, start))?;
+    println!(rt)
 }
 
 // How many bytes from a place on hold AA.

@@ -6,12 +6,12 @@ use crate::line::{number, wide};
 use code::decode::decode;
 use code::refusal::refusal_number;
 use document::types::{Refusal, Reply};
-use libc::STDOUT_FILENO;
+use std::io;
 
 // A word has 3 bytes at most. More than 7 changed places would be counted with the refused.
-pub fn words_line(sheet: &[u8], n: usize) {
+pub fn words_line(rt: &impl Print, sheet: &[u8], n: usize) -> io::Result<()> {
     if 24 < n {
-        return;
+        return Ok(());
     }
     let end = 1u32 << n;
     let count = (n + 7) / 8;
@@ -22,7 +22,7 @@ pub fn words_line(sheet: &[u8], n: usize) {
         checksum = with_word(sheet, word, count, checksum, &mut counts);
         word = word + 1;
     }
-    show(&counts, checksum);
+    show(rt, &counts, checksum)
 }
 
 // The checksum with the answer to a word, which is counted. The word is a mask over its places.
@@ -44,7 +44,7 @@ fn with_word(
     let mut out = [170u8; 3];
     let x = reply_value(decode_part(sheet, &bytes, &mut out, count));
     let at = slot(x);
-    counts[at] = std::num::wrapping_add_usize(counts[at], 1);
+    counts[at] = counts[at].wrapping_add(1);
     let value = ((x * 256 + wide(out[2])) * 256 + wide(out[1])) * 256 + wide(out[0]);
     (checksum * 1000003 + value) % 4294967291
 }
@@ -84,14 +84,14 @@ fn slot(x: usize) -> usize
     if x < 8 { x } else { 8 }
 }
 
-fn show(counts: &[usize; 9], checksum: usize) {
-    io::write_all(STDOUT_FILENO, b"all changed");
+fn show(rt: &impl Print, counts: &[usize; 9], checksum: usize) -> io::Result<()> {
+    print!(rt; "all changed")?;
     let mut i: usize = 0;
     while i < 8 {
-        number(b" ", counts[i]);
+        number(rt, b" ", counts[i])?;
         i = i + 1;
     }
-    number(b" refused ", counts[8]);
-    number(b" checksum ", checksum);
-    io::write_all(STDOUT_FILENO, b"\n");
+    number(rt, b" refused ", counts[8])?;
+    number(rt, b" checksum ", checksum)?;
+    println!(rt)
 }

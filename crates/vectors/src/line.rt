@@ -1,22 +1,24 @@
 // What lines are made of, numbers and bytes in hexadecimal; and numbers in a call's bytes.
 ghost use Rattle.std.specs.Prelude.{◌<◌};
 
-use libc::STDOUT_FILENO;
+use std::io;
 
-pub fn number(label: &[u8], n: usize) {
-    io::write_all(STDOUT_FILENO, label);
-    io::print_decimal(STDOUT_FILENO, n as u64);
+pub fn number(rt: &impl Print, label: &[u8], n: usize) -> io::Result<()> {
+    rt.write_all(label)?;
+    print!(rt; "{n}")
 }
 
-pub fn hex(bytes: &[u8], end: usize) {
+pub fn hex(rt: &impl Print, bytes: &[u8], end: usize) -> io::Result<()> {
     if bytes.len() < end {
-        return;
+        return Ok(());
     }
     let mut i: usize = 0;
     while i < end {
-        io::print_hex(STDOUT_FILENO, wide(bytes[i]) as u64, 2);
+        let byte = wide(bytes[i]);
+        print!(rt; "{byte:02x}")?;
         i = i + 1;
     }
+    Ok(())
 }
 
 pub fn wide(x: u8) -> usize

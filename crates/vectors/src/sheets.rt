@@ -4,42 +4,42 @@ use code::card::card;
 use code::judge::judge;
 use code::refusal::refusal_number;
 use document::types::{Judged, Record, Refusal, Reply};
-use libc::STDOUT_FILENO;
+use std::io;
 
-pub fn judge_line(sheet: &[u8]) {
+pub fn judge_line(rt: &impl Print, sheet: &[u8]) -> io::Result<()> {
     match judge(sheet) {
-        Judged::Accepted(r) => accepted_line(r),
-        Judged::Refused(r) => refused_line(r),
+        Judged::Accepted(r) => accepted_line(rt, r),
+        Judged::Refused(r) => refused_line(rt, r),
     }
 }
 
-pub fn card_lines(sheet: &[u8]) {
+pub fn card_lines(rt: &impl Print, sheet: &[u8]) -> io::Result<()> {
     let mut out = [170u8; 1024];
     match card(sheet, &mut out) {
-        Reply::Done(size) => write_part(&out, size),
-        Reply::Refused(r) => refused_line(r),
+        Reply::Done(size) => write_part(rt, &out, size),
+        Reply::Refused(r) => refused_line(rt, r),
     }
 }
 
-pub fn write_part(text: &[u8], size: usize) {
+pub fn write_part(rt: &impl Print, text: &[u8], size: usize) -> io::Result<()> {
     if text.len() < size {
-        return;
+        return Ok(());
     }
-    io::write_all(STDOUT_FILENO, &text[..size]);
+    rt.write_all(&text[..size])
 }
 
-fn accepted_line(r: Record) {
-    number(b"accepted ", r.n as usize);
-    number(b" ", r.k as usize);
-    number(b" ", r.s as usize);
-    number(b" ", r.working as usize);
-    number(b" ", r.d as usize);
-    number(b" ", r.t as usize);
-    number(b" ", r.terms as usize);
-    io::write_all(STDOUT_FILENO, b"\n");
+fn accepted_line(rt: &impl Print, r: Record) -> io::Result<()> {
+    number(rt, b"accepted ", r.n as usize)?;
+    number(rt, b" ", r.k as usize)?;
+    number(rt, b" ", r.s as usize)?;
+    number(rt, b" ", r.working as usize)?;
+    number(rt, b" ", r.d as usize)?;
+    number(rt, b" ", r.t as usize)?;
+    number(rt, b" ", r.terms as usize)?;
+    println!(rt)
 }
 
-fn refused_line(r: Refusal) {
-    number(b"refused ", refusal_number(r));
-    io::write_all(STDOUT_FILENO, b"\n");
+fn refused_line(rt: &impl Print, r: Refusal) -> io::Result<()> {
+    number(rt, b"refused ", refusal_number(r))?;
+    println!(rt)
 }

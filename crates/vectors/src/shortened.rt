@@ -5,33 +5,48 @@ use code::decode::decode_short;
 use code::encode::encode_short;
 use code::read::read_short;
 use document::types::Reply;
-use libc::STDOUT_FILENO;
+use std::io;
 
 // The input is m, eight bytes, the low one first, and the message or the word.
-pub fn short_line(kind: u8, sheet: &[u8], input: &[u8], length: usize) {
+pub fn short_line(
+    rt: &impl Print,
+    kind: u8,
+    sheet: &[u8],
+    input: &[u8],
+    length: usize,
+) -> io::Result<()> {
     if input.len() < 8 {
-        return;
+        return Ok(());
     }
     let mut out = [170u8; 20];
     lent_line(
+        rt,
         kind,
         sheet,
         eight_bytes(input, 0),
         &input[8..],
         &mut out,
         length,
-    );
+    )
 }
 
-fn lent_line(kind: u8, sheet: &[u8], m: usize, given: &[u8], out: &mut [u8], length: usize) {
+fn lent_line(
+    rt: &impl Print,
+    kind: u8,
+    sheet: &[u8],
+    m: usize,
+    given: &[u8],
+    out: &mut [u8],
+    length: usize,
+) -> io::Result<()> {
     if out.len() < length {
-        return;
+        return Ok(());
     }
     let reply = reply_to(kind, sheet, m, given, &mut out[..length]);
-    entry_label(kind);
-    reply_words(reply);
-    hex(out, length);
-    io::write_all(STDOUT_FILENO, b"\n");
+    entry_label(rt, kind)?;
+    reply_words(rt, reply)?;
+    hex(rt, out, length)?;
+    println!(rt)
 }
 
 fn reply_to(kind: u8, sheet: &[u8], m: usize, given: &[u8], out: &mut [u8]) -> Reply {
@@ -44,12 +59,12 @@ fn reply_to(kind: u8, sheet: &[u8], m: usize, given: &[u8], out: &mut [u8]) -> R
     decode_short(sheet, m, given, out)
 }
 
-fn entry_label(kind: u8) {
+fn entry_label(rt: &impl Print, kind: u8) -> io::Result<()> {
     if kind == 8 {
-        io::write_all(STDOUT_FILENO, b"encode_short");
+        print!(rt; "encode_short")
     } else if kind == 9 {
-        io::write_all(STDOUT_FILENO, b"read_short");
+        print!(rt; "read_short")
     } else {
-        io::write_all(STDOUT_FILENO, b"decode_short");
+        print!(rt; "decode_short")
     }
 }

@@ -5,21 +5,34 @@ use code::encode::encode;
 use code::read::read;
 use code::refusal::refusal_number;
 use document::types::Reply;
-use libc::STDOUT_FILENO;
+use std::io;
 
-pub fn word_line(kind: u8, sheet: &[u8], input: &[u8], length: usize) {
+pub fn word_line(
+    rt: &impl Print,
+    kind: u8,
+    sheet: &[u8],
+    input: &[u8],
+    length: usize,
+) -> io::Result<()> {
     let mut out = [170u8; 20];
-    lent_line(kind, sheet, input, &mut out, length);
+    lent_line(rt, kind, sheet, input, &mut out, length)
 }
 
-fn lent_line(kind: u8, sheet: &[u8], input: &[u8], out: &mut [u8], length: usize) {
+fn lent_line(
+    rt: &impl Print,
+    kind: u8,
+    sheet: &[u8],
+    input: &[u8],
+    out: &mut [u8],
+    length: usize,
+) -> io::Result<()> {
     if out.len() < length {
-        return;
+        return Ok(());
     }
     let reply = reply_to(kind, sheet, input, &mut out[..length]);
-    reply_label(kind, reply);
-    hex(out, length);
-    io::write_all(STDOUT_FILENO, b"\n");
+    reply_label(rt, kind, reply)?;
+    hex(rt, out, length)?;
+    println!(rt)
 }
 
 fn reply_to(kind: u8, sheet: &[u8], input: &[u8], out: &mut [u8]) -> Reply {
@@ -32,22 +45,22 @@ fn reply_to(kind: u8, sheet: &[u8], input: &[u8], out: &mut [u8]) -> Reply {
     decode(sheet, input, out)
 }
 
-fn reply_label(kind: u8, reply: Reply) {
+fn reply_label(rt: &impl Print, kind: u8, reply: Reply) -> io::Result<()> {
     if kind == 1 {
-        io::write_all(STDOUT_FILENO, b"encode");
+        print!(rt; "encode")?;
     } else if kind == 2 {
-        io::write_all(STDOUT_FILENO, b"read");
+        print!(rt; "read")?;
     } else {
-        io::write_all(STDOUT_FILENO, b"decode");
+        print!(rt; "decode")?;
     }
-    reply_words(reply);
+    reply_words(rt, reply)
 }
 
 // What is returned may be the number of a refusal.
-pub fn reply_words(reply: Reply) {
+pub fn reply_words(rt: &impl Print, reply: Reply) -> io::Result<()> {
     match reply {
-        Reply::Done(n) => number(b" returned ", n),
-        Reply::Refused(r) => number(b" refused ", refusal_number(r)),
+        Reply::Done(n) => number(rt, b" returned ", n)?,
+        Reply::Refused(r) => number(rt, b" refused ", refusal_number(r))?,
     }
-    io::write_all(STDOUT_FILENO, b" ");
+    print!(rt; " ")
 }

@@ -12,28 +12,26 @@
  *
  * Building. The command rt of the Rattle kit proves the library and writes the archive; then it links as any other:
  *
- *     rt staticlib dunefork
+ *     tools/staticlib
  *     cc -Iinclude program.c target/staticlib/libdunefork.a
  *
  * The archive is for x86-64 and ELF (Linux), position independent, and calls no function of the C library but memset, memmove
  * and memcpy. There is nothing to set up and nothing to free.
  *
- * Calls. Every call but dunefork_shown_length and those of link health is handed the sheet's bytes and judges the sheet first,
- * dunefork_card after the length of `out`. (dunefork_shown and dunefork_block_put are inline functions of this header, and no calls in this
- * sense.) The library keeps nothing between calls: no heap, no global state; what link health keeps is in a state that you lend. Calls from
- * several threads need no lock, as long as no other thread writes to a buffer that a call uses; so two threads must not report to one
- * state at once.
+ * Calls. Every call but dunefork_shown_length is handed the sheet's bytes and judges the sheet first, dunefork_card after the length
+ * of `out`. (dunefork_shown and dunefork_block_put are inline functions of this header, and no calls in this sense.) Nothing is kept
+ * between calls: no heap, no global state. Calls from several threads need no lock, as long as no other thread writes to a buffer that a
+ * call uses.
  *     Each buffer goes with its length in bytes, and nothing outside is read or written. A length must be exact, but for
- * dunefork_shown_length: an input, `out`, `zeros`, `ones`, `verdicts` or `state` that is too long is refused like one that is too short. A
- * pointer may be any address, also a null one, where its length is 0.
+ * dunefork_shown_length: an input, `out`, `zeros`, `ones` or `verdicts` that is too long is refused like one that is too short. A pointer
+ * may be any address, also a null one, where its length is 0.
  *     `out` must not overlap the sheet or the input, so a word cannot be decoded in place. Nor may `zeros` and `ones`, the buffers that
  * dunefork_decode_marked writes, overlap each other, the sheet, the word or the marks; nor `out` and `verdicts` of dunefork_decode_block
  * each other, the sheet or the block. If one does, even by one byte, nothing that is said here holds of the call: it may return any
- * number, and read and write outside the buffers. No call checks for that. The sheet and the inputs are only read, and may overlap. A call
- * of link health has one buffer, its state.
+ * number, and read and write outside the buffers. No call checks for that. The sheet and the inputs are only read, and may overlap.
  *     A return of 0 or more says that it is done. A negative one is a refusal, minus the number that document 01 or 02 gives it, and
- * then `out`, `zeros` and `ones`, `out` and `verdicts`, or `state`, are as they were, every byte of them. Of a block dunefork_decode_block
- * returns 0 also where some or all of its words are near no codeword: the verdicts tell of each.
+ * then `out`, `zeros` and `ones`, or `out` and `verdicts`, are as they were, every byte of them. Of a block dunefork_decode_block returns
+ * 0 also where some or all of its words are near no codeword: the verdicts tell of each.
  *
  * Words and messages. A word of n places takes DUNEFORK_BYTES(n) bytes and a message of k places DUNEFORK_BYTES(k). They lie in
  * their bytes in opposite ways:
@@ -88,24 +86,6 @@
  *     dunefork_decode_block(sheet, sizeof sheet, 8, block, sizeof block, out, sizeof out, verdicts, sizeof verdicts);  // returns 0
  *     // word i is out[2 i] and out[2 i + 1], with verdicts[i] of its places changed; or verdicts[i] is 255, no codeword near
  *
- * Link health. How hard a link is working shows in its last 64 words: how many of them were refused, and how many places were changed in the
- * others. Each decoded word reports one byte, the number of its changed places, or DUNEFORK_HEALTH_REFUSED where decoding refused it with
- * DUNEFORK_NONE_NEAR. The reports go into a state of DUNEFORK_HEALTH_BYTES bytes that you lend, one for each link, and the totals are
- * read out of it at any time (examples/c/health.c has it in full):
- *
- *     uint8_t state[DUNEFORK_HEALTH_BYTES];
- *
- *     dunefork_health_reset(state, sizeof state);  // begin with a reset: returns 0, and the bytes before may be anything
- *     // .. and for each word that arrives ..
- *     int32_t changed = dunefork_decode(sheet, sizeof sheet, word, sizeof word, right, sizeof right);
- *     if (changed >= 0 || changed == DUNEFORK_NONE_NEAR)
- *         dunefork_health_report(state, sizeof state, changed < 0 ? DUNEFORK_HEALTH_REFUSED : (uint8_t)changed);  // returns 0
- *     int32_t refused = dunefork_health_refused(state, sizeof state);  // of the last 64 words, 0 to 64
- *     int32_t places = dunefork_health_changed(state, sizeof state);   // changed in the others
- *
- * Any other refusal means that no word was decoded: it reports nothing. The verdicts of a block are reports as they are. A state may be
- * copied, stored and moved freely, and a copy goes on from where it was made; another reset begins the history again, empty.
- *
  * The sheet. 16-bit numbers have their low byte first. The folder sheets/ has some; docs/SHEETS.md says how to write one.
  *     bytes 0-1  length of the whole sheet, 10 + R + 8 C
  *     byte  2    n, odd, 3 to 127
@@ -119,10 +99,10 @@
  *     then C certificates of 8 bytes: start b, step z, mask f (two bytes), mask h, a byte 0, number of terms L (two bytes).
  * The program linkcard tells what a sheet amounts to: tools/linkcard sheets/bch-15-7.hex.
  *
- * What is proved. For every sheet, input, state and buffer of any length, those that are written apart from all others, the code behind
- * these functions replies and writes exactly what its definitions say (crates/document/specs, for link health crates/link/specs, and
- * crates/dunefork/specs for the number returned). The compiler's back end, the calling convention and this header with its dunefork_shown
- * and dunefork_block_put are not proved, nor are time, stack and secrecy.
+ * What is proved. For every sheet, input and buffer of any length, those that are written apart from all others, the code behind
+ * these functions replies and writes exactly what its definitions say (crates/document/specs, and crates/dunefork/specs for the number
+ * returned). The compiler's back end, the calling convention and this header with its dunefork_shown and dunefork_block_put are not proved,
+ * nor are time, stack and secrecy.
  */
 #ifndef DUNEFORK_H
 #define DUNEFORK_H
@@ -134,21 +114,16 @@
 extern "C" {
 #endif
 
-/* Bytes that n places take; the longest sheet, and the longest word or message, in bytes; the buffer for a listing; the state of a link's
- * health. */
+/* Bytes that n places take; the longest sheet, and the longest word or message, in bytes; the buffer for a listing. */
 #define DUNEFORK_BYTES(n) (((size_t)(n) + 7) / 8)
 #define DUNEFORK_SHEET_MAX 74
 #define DUNEFORK_WORD_MAX 16
 #define DUNEFORK_CARD_BYTES 1024
-#define DUNEFORK_HEALTH_BYTES 68
-
-/* The report of a word that decoding refused with DUNEFORK_NONE_NEAR, and a block's verdict on such a word. */
-#define DUNEFORK_HEALTH_REFUSED 255
 
 /* Bytes of stack that a call takes, at most and for any input, its return address included; what memset and memmove of your C
  * library take for themselves is not counted. Those of encode, read and decode hold for dunefork_encode_short, dunefork_read_short and
- * dunefork_decode_short too; those of dunefork_decode_block hold for every m; that of health is for each of the four calls of link health.
- * tools/stack measures the archive and writes these lines: docs/STACK.md. */
+ * dunefork_decode_short too; those of dunefork_decode_block hold for every m. tools/stack measures the archive and writes these lines:
+ * docs/STACK.md. */
 #define DUNEFORK_ENCODE_STACK 1652
 #define DUNEFORK_READ_STACK 1652
 #define DUNEFORK_DECODE_STACK 80096
@@ -164,7 +139,6 @@ extern "C" {
 #define DUNEFORK_DECODE_BLOCK_STACK_SHORT 7776 /* and fewer than 64 terms, */
 #define DUNEFORK_DECODE_BLOCK_STACK_LEAST 5488 /* and s at most 6 */
 #define DUNEFORK_SHOWN_LENGTH_STACK 8
-#define DUNEFORK_HEALTH_STACK 0
 #define DUNEFORK_CARD_STACK 1820
 
 /* What a call returns where it refuses. The conditions are tried in this order, SHORTENING and INTERLEAVING_DEPTH between TERM and
@@ -183,7 +157,7 @@ extern "C" {
 #define DUNEFORK_PERIOD (-9)          /* two of f(x), f(a x), .. f(a^(n-1) x), for the mask f of a certificate and the code's root a, have a
                                          common factor; where the period of f is coprime to n none have */
 #define DUNEFORK_TERM (-10)           /* a certificate has a term j below L that is 1 while b + j z modulo n is outside the defining set */
-#define DUNEFORK_BUFFER_LENGTH (-11)  /* an input, `out`, `zeros`, `ones`, `verdicts` or `state` has not its exact length */
+#define DUNEFORK_BUFFER_LENGTH (-11)  /* an input, `out`, `zeros`, `ones` or `verdicts` has not its exact length */
 #define DUNEFORK_SPARE_BIT (-12)      /* a spare bit of an input is 1: a low one in the last byte of a word, of marks or of a block, a
                                          high one in a message's */
 #define DUNEFORK_NONE_NEAR (-13)      /* decoding: no codeword, of a shortened code no shortened one, within t places of the word */
@@ -288,28 +262,6 @@ static inline void dunefork_block_put(size_t n, size_t m, size_t i, const uint8_
         block[p / 8] = (uint8_t)(others | place << (7 - p % 8));
     }
 }
-
-/* The calls of link health: what the last 64 words of a link were like. There is no sheet. state has exactly DUNEFORK_HEALTH_BYTES bytes;
- * one of another length is refused with DUNEFORK_BUFFER_LENGTH and is as it was. That is the only refusal; document 02 names none here, and
- * -11 is chosen, as for all other buffers.
- *     A history begins with dunefork_health_reset, and after it any reports and further resets follow, each on the state that the call
- * before left. Then the two totals are what a fresh count over the last 64 reports since the last reset gives, or over all of them where
- * they are fewer. A state that no such calls made is no mistake: each call is finished all the same, and returns 0, or a total of at most
- * 255 refused or of at most 65,535 changed; but the totals are then no count of anything. */
-
-/* Begins the history again, empty: both totals are 0. What state held before does not matter. Returns 0, or a refusal: -11. */
-int32_t dunefork_health_reset(uint8_t *state, size_t state_len);
-
-/* Takes in one word's report: DUNEFORK_HEALTH_REFUSED for a word that was refused with DUNEFORK_NONE_NEAR; any other byte, 0 to 254, is
- * the number of places that were changed. From the 65th report on the oldest of the 64 before is dropped. Returns 0, or a refusal: -11. */
-int32_t dunefork_health_report(uint8_t *state, size_t state_len, uint8_t report);
-
-/* How many of the last 64 reports were DUNEFORK_HEALTH_REFUSED, 0 to 64. state is only read. Returns that, or a refusal: -11. */
-int32_t dunefork_health_refused(const uint8_t *state, size_t state_len);
-
-/* How many places were changed in the others of the last 64 together, 0 to 16,256 (64 times 254). state is only read. Returns that, or a
- * refusal: -11. */
-int32_t dunefork_health_changed(const uint8_t *state, size_t state_len);
 
 /* Tells what a sheet amounts to: its listing, the program linkcard's text, into out, exactly DUNEFORK_CARD_BYTES bytes. The lines
  * are "code N K S", S being the field's degree, "zeros ..", "generator ..", for each certificate C "cert C terms L distance D", and

@@ -38,19 +38,18 @@ fn built() -> PathBuf {
     }
     println!("cargo:rerun-if-changed={}", root.join("crates").display());
     println!("cargo:rerun-if-changed={}", root.join("crates.txt").display());
-    match Command::new("rt").args(["staticlib", "dunefork"]).current_dir(&root).output() {
+    match Command::new(root.join("tools/staticlib")).output() {
         Ok(run) if run.status.success() => root.join("target/staticlib"),
         Ok(run) => {
             let told = String::from_utf8_lossy(&run.stdout).into_owned() + &String::from_utf8_lossy(&run.stderr);
             let lines: Vec<&str> = told.lines().collect();
             let last = lines[lines.len().saturating_sub(10)..].join("\n");
-            fail(&format!("'rt staticlib dunefork' failed ({}); its last lines:\n{last}", run.status))
+            fail(&format!("'tools/staticlib' failed ({}); its last lines:\n{last}", run.status))
         }
         Err(error) if error.kind() == ErrorKind::NotFound => fail(
-            "the command rt of the Rattle kit is not on the PATH, and DUNEFORK_LIB_DIR is not set: install the kit, or set \
-             DUNEFORK_LIB_DIR to the folder of a libdunefork.a",
+            "the repository has no tools/staticlib, and DUNEFORK_LIB_DIR is not set: set DUNEFORK_LIB_DIR to the folder of a libdunefork.a",
         ),
-        Err(error) => fail(&format!("'rt staticlib dunefork' was not started: {error}")),
+        Err(error) => fail(&format!("'tools/staticlib' was not started: {error}")),
     }
 }
 

@@ -1,6 +1,6 @@
 //! Binary cyclic codes for a noisy wire, each code given by a *code sheet*: a few bytes that name the code and carry a
 //! certificate of its distance. This crate hands calls on to the proved static library `libdunefork.a`; it adds lengths,
-//! pointers and an error type, takes one number apart (2 e + trial), puts words into a block, and makes a decoding's answer a report.
+//! pointers and an error type, takes one number apart (2 e + trial), and puts words into a block.
 //!
 //! ```
 //! // Sheet B of document 01: n = 15 places, k = 7 message places, any t = 2 wrong places are corrected.
@@ -38,30 +38,21 @@
 //! Where a soft starter wipes out a run of bits, m words are sent together as a block, one place of each in turn ([`block_put`]), and
 //! [`decode_block`] corrects them all, whole as long as at most m·t neighbouring bits are spoiled, none of them spare.
 //!
-//! How hard the link is working, [`Health`] tells over the last 64 words: each word reports one byte, its changed places or 255 where no
-//! codeword was near ([`word_report`]), and the state answers how many were refused and how many places were changed in the others.
-//!
 //! Spare bits must be 0 in what is handed over, and are 0 in what comes back. n is byte 2 of the sheet; [`card`] tells n, k, d and t of
 //! a sheet, and docs/SHEETS.md how to write one.
 //!
-//! Every call that is handed a sheet judges it anew. Nothing is kept between calls but a [`Health`], which is the caller's: no heap, no
-//! global state, no lock. A call that fails leaves the buffers that it was lent as they were, every byte of them. docs/STACK.md tells how
-//! much stack a call takes.
+//! Every call that is handed a sheet judges it anew. Nothing is kept between calls: no heap, no global state, no lock. A call that
+//! fails leaves the buffers that it was lent as they were, every byte of them. docs/STACK.md tells how much stack a call takes.
 //!
 //! Building: cargo links `libdunefork.a` from the folder that DUNEFORK_LIB_DIR names; where it is not set, build.rs proves and
-//! builds the library in the repository that this crate stands in, by `rt staticlib dunefork`.
+//! builds the library in the repository that this crate stands in, by `tools/staticlib`.
 //!
-//! What is proved is the library: for every sheet, input, buffer and state of any length it answers and writes exactly what its
+//! What is proved is the library: for every sheet, input and buffer of any length it answers and writes exactly what its
 //! definitions say. This crate, the compilers' back ends and the linking are not proved.
 #![cfg_attr(not(feature = "std"), no_std)]
 #![warn(missing_docs)]
 
 use core::fmt;
-
-mod health;
-pub use health::{
-    health_changed, health_refused, health_report, health_reset, word_report, Health, HEALTH_BYTES, HEALTH_REFUSED,
-};
 
 /// The longest sheet, in bytes.
 pub const SHEET_MAX: usize = 74;
@@ -108,7 +99,7 @@ pub enum Error {
     Period = 9,
     /// A certificate counts on a zero that the code does not have.
     Term = 10,
-    /// An input, an output buffer or a state has not its exact length.
+    /// An input or an output buffer has not its exact length.
     BufferLength = 11,
     /// A spare bit of an input is 1: a low one in the last byte of a word, of marks or of a block, a high one in a message's.
     SpareBit = 12,
@@ -175,7 +166,7 @@ impl fmt::Display for Error {
             Error::CommonFactor => "the masks h and f of a certificate have a common factor",
             Error::Period => "two of a certificate's f(α^i·x), i below n, have a common factor",
             Error::Term => "a certificate counts on a zero that the code does not have",
-            Error::BufferLength => "an input, an output buffer or a state has not its exact length",
+            Error::BufferLength => "an input or an output buffer has not its exact length",
             Error::SpareBit => "a spare bit of an input's last byte is 1",
             Error::NoneNear => "no codeword lies within t places of the word",
             Error::NoCodeword => "the word is no codeword",
@@ -226,10 +217,6 @@ mod c {
             v: *mut u8,
             v_len: usize,
         ) -> i32;
-        fn dunefork_health_reset(h: *mut u8, h_len: usize) -> i32;
-        fn dunefork_health_report(h: *mut u8, h_len: usize, r: u8) -> i32;
-        fn dunefork_health_refused(h: *const u8, h_len: usize) -> i32;
-        fn dunefork_health_changed(h: *const u8, h_len: usize) -> i32;
         fn dunefork_card(s: *const u8, s_len: usize, o: *mut u8, o_len: usize) -> i32;
     }
 
@@ -306,30 +293,6 @@ mod c {
                 verdicts.len(),
             )
         })
-    }
-
-    /// The answer of a state's reset: 0.
-    pub fn health_reset(state: &mut [u8]) -> Result<usize, super::Error> {
-        // SAFETY: the entry writes `state`, which is borrowed exclusively, within its length, and keeps no pointer.
-        answer(unsafe { dunefork_health_reset(state.as_mut_ptr(), state.len()) })
-    }
-
-    /// The answer of a state to a report: 0.
-    pub fn health_report(state: &mut [u8], report: u8) -> Result<usize, super::Error> {
-        // SAFETY: as for the reset.
-        answer(unsafe { dunefork_health_report(state.as_mut_ptr(), state.len(), report) })
-    }
-
-    /// How many were refused, by a state.
-    pub fn health_refused(state: &[u8]) -> Result<usize, super::Error> {
-        // SAFETY: nothing is written.
-        answer(unsafe { dunefork_health_refused(state.as_ptr(), state.len()) })
-    }
-
-    /// How many places were changed, by a state.
-    pub fn health_changed(state: &[u8]) -> Result<usize, super::Error> {
-        // SAFETY: nothing is written.
-        answer(unsafe { dunefork_health_changed(state.as_ptr(), state.len()) })
     }
 
     /// The listing of a sheet into `out`: its length.

@@ -45,12 +45,7 @@ pub fn dunefork_decode(sheet: &[u8], word: &[u8], out: &mut [u8]) -> i32
 }
 
 // The same three for a code shortened by m: messages of k - m bits, and words of n - m places.
-pub fn dunefork_encode_short(
-    sheet: &[u8],
-    m: usize,
-    message: &[u8],
-    out: &mut [u8],
-) -> i32
+pub fn dunefork_encode_short(sheet: &[u8], m: usize, message: &[u8], out: &mut [u8]) -> i32
     ensures { (result, out.new) ≡ coded_as (encode_shortened_of sheet.now m message.now out.old) }
 {
     let reply = code::encode::encode_short(sheet, m, message, out);
@@ -98,12 +93,7 @@ pub fn dunefork_decode_marked(
 }
 
 // How long the part of a trial buffer is that is shown. An exported function cannot return the part itself.
-pub fn dunefork_shown_length<'a>(
-    trial: usize,
-    n: usize,
-    zeros: &'a [u8],
-    ones: &'a [u8],
-) -> usize
+pub fn dunefork_shown_length<'a>(trial: usize, n: usize, zeros: &'a [u8], ones: &'a [u8]) -> usize
     ensures { result ≡ length (shown_of trial n zeros.now ones.now) }
 {
     let part = code::marked::shown(trial, n, zeros, ones);

@@ -1,6 +1,7 @@
 //! Tells cargo where libdunefork.a is: in DUNEFORK_LIB_DIR, or in the repository that this crate stands in, where the
 //! command rt of the Rattle kit proves and builds it.
 use std::env;
+use std::fs;
 use std::io::ErrorKind;
 use std::path::{Path, PathBuf};
 use std::process::{exit, Command};
@@ -36,7 +37,12 @@ fn built() -> PathBuf {
     if !root.join("crates/dunefork/src/lib.rt").is_file() {
         fail("this crate does not stand in the repository of dunefork: set DUNEFORK_LIB_DIR to the folder of libdunefork.a");
     }
-    println!("cargo:rerun-if-changed={}", root.join("crates").display());
+    // what is proved, and not what proving writes beside it
+    for dir in fs::read_dir(root.join("crates")).into_iter().flatten().flatten() {
+        for part in ["src", "specs", "proofs"] {
+            println!("cargo:rerun-if-changed={}", dir.path().join(part).display());
+        }
+    }
     println!("cargo:rerun-if-changed={}", root.join("crates.txt").display());
     match Command::new(root.join("tools/staticlib")).output() {
         Ok(run) if run.status.success() => root.join("target/staticlib"),
@@ -44,7 +50,11 @@ fn built() -> PathBuf {
             let told = String::from_utf8_lossy(&run.stdout).into_owned() + &String::from_utf8_lossy(&run.stderr);
             let lines: Vec<&str> = told.lines().collect();
             let last = lines[lines.len().saturating_sub(10)..].join("\n");
-            fail(&format!("'tools/staticlib' failed ({}); its last lines:\n{last}", run.status))
+            fail(&format!(
+                "'tools/staticlib' failed ({}); install the kit, or set DUNEFORK_LIB_DIR to the folder of a libdunefork.a; its last \
+                 lines:\n{last}",
+                run.status
+            ))
         }
         Err(error) if error.kind() == ErrorKind::NotFound => fail(
             "the repository has no tools/staticlib, and DUNEFORK_LIB_DIR is not set: set DUNEFORK_LIB_DIR to the folder of a libdunefork.a",

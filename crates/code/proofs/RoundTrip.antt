@@ -9,7 +9,7 @@
 --   codeword_place       message bit i stands in place n - k + i,
 --   codeword_low         and the places below hold the remainder
 --   codeword_multiple, codeword_set, codeword_representatives      what a codeword is, three times
---   read-back            reading it gives the message back
+--   read_back            reading it gives the message back
 --   codewords_distinct   distinct messages have distinct codewords
 --   message_message, encode_back      a codeword is what encoding makes of the message that reading gives
 --   none_refused         a word that is no codeword is refused with 14

@@ -27,6 +27,9 @@ fn read_full<R: Read>(from: &mut R, buffer: &mut [u8]) -> io::Result<usize>
 {
     let mut size = 0usize;
     for _ in 0..buffer.len() {
+        if size == buffer.len() {
+            break;
+        }
         let more = from.read(&mut buffer[size..])?;
         if more == 0 {
             break;

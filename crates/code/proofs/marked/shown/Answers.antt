@@ -12,13 +12,13 @@ pub slice_bounds-result-end-then-size-ones : goal.slice_bounds-result-end-then-s
 slice_bounds-result-end-then-size-ones c = sym (length-take-le _ _ (omega arith))
 
 pub returns-then-size-zeros : goal.returns-then-size-zeros
-returns-then-size-zeros c = part_zeros _ _ _ _ c.if-trial-eq0.true
+returns-then-size-zeros c = part_zeros _ _ _ _ (omega arith)
 
 pub returns-else-size-zeros : goal.returns-else-size-zeros
-returns-else-size-zeros c = all_zeros _ _ _ _ c.if-trial-eq0.true (omega arith)
+returns-else-size-zeros c = all_zeros _ _ _ _ (omega arith) (omega arith)
 
 pub returns-then-size-ones : goal.returns-then-size-ones
-returns-then-size-ones c = part_ones _ _ _ _ c.if-trial-eq0.false
+returns-then-size-ones c = part_ones _ _ _ _ (omega arith)
 
 pub returns-else-size-ones : goal.returns-else-size-ones
-returns-else-size-ones c = all_ones _ _ _ _ c.if-trial-eq0.false (omega arith)
+returns-else-size-ones c = all_ones _ _ _ _ (omega arith) (omega arith)

@@ -124,22 +124,22 @@ extern "C" {
  * library take for themselves is not counted. Those of encode, read and decode hold for dunefork_encode_short, dunefork_read_short and
  * dunefork_decode_short too; those of dunefork_decode_block hold for every m. tools/stack measures the archive and writes these lines:
  * docs/STACK.md. */
-#define DUNEFORK_ENCODE_STACK 1548
-#define DUNEFORK_READ_STACK 1548
-#define DUNEFORK_DECODE_STACK 79720
-#define DUNEFORK_DECODE_STACK_SMALL 33640 /* on a sheet whose s, the third number of its listing, is at most 8 */
-#define DUNEFORK_DECODE_STACK_SHORT 6760 /* on such a sheet whose certificate at work has fewer than 64 terms (L) */
-#define DUNEFORK_DECODE_STACK_LEAST 4456 /* on such a sheet whose s is at most 6 */
-#define DUNEFORK_DECODE_MARKED_STACK 79848
-#define DUNEFORK_DECODE_MARKED_STACK_SMALL 33768 /* on the same sheets as decode's: s at most 8, */
-#define DUNEFORK_DECODE_MARKED_STACK_SHORT 6888 /* and fewer than 64 terms, */
-#define DUNEFORK_DECODE_MARKED_STACK_LEAST 4584 /* and s at most 6 */
-#define DUNEFORK_DECODE_BLOCK_STACK 80376
-#define DUNEFORK_DECODE_BLOCK_STACK_SMALL 34296 /* likewise: s at most 8, */
-#define DUNEFORK_DECODE_BLOCK_STACK_SHORT 7416 /* and fewer than 64 terms, */
-#define DUNEFORK_DECODE_BLOCK_STACK_LEAST 5112 /* and s at most 6 */
+#define DUNEFORK_ENCODE_STACK 1604
+#define DUNEFORK_READ_STACK 1604
+#define DUNEFORK_DECODE_STACK 79872
+#define DUNEFORK_DECODE_STACK_SMALL 33792 /* on a sheet whose s, the third number of its listing, is at most 8 */
+#define DUNEFORK_DECODE_STACK_SHORT 6928 /* on such a sheet whose certificate at work has fewer than 64 terms (L) */
+#define DUNEFORK_DECODE_STACK_LEAST 4624 /* on such a sheet whose s is at most 6 */
+#define DUNEFORK_DECODE_MARKED_STACK 79968
+#define DUNEFORK_DECODE_MARKED_STACK_SMALL 33888 /* on the same sheets as decode's: s at most 8, */
+#define DUNEFORK_DECODE_MARKED_STACK_SHORT 7024 /* and fewer than 64 terms, */
+#define DUNEFORK_DECODE_MARKED_STACK_LEAST 4720 /* and s at most 6 */
+#define DUNEFORK_DECODE_BLOCK_STACK 80416
+#define DUNEFORK_DECODE_BLOCK_STACK_SMALL 34336 /* likewise: s at most 8, */
+#define DUNEFORK_DECODE_BLOCK_STACK_SHORT 7472 /* and fewer than 64 terms, */
+#define DUNEFORK_DECODE_BLOCK_STACK_LEAST 5168 /* and s at most 6 */
 #define DUNEFORK_SHOWN_LENGTH_STACK 8
-#define DUNEFORK_CARD_STACK 1812
+#define DUNEFORK_CARD_STACK 1912
 
 /* What a call returns where it refuses. The conditions are tried in this order, SHORTENING and INTERLEAVING_DEPTH between TERM and
  * BUFFER_LENGTH; those of certificates (RANGE to TERM) for one certificate after the other. examples/c/refusals.c draws each of them,

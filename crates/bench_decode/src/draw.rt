@@ -2,54 +2,38 @@
 ghost use Rattle.std.specs.Prelude.{◌<◌};
 
 // A linear congruence modulo 2^32.
-fn next(x: u64) -> u64
-    requires { x < 4294967296 }
-    ensures { result < 4294967296 }
-{
-    (x * 1664525 + 1013904223) % 4294967296
+fn next(x: u32) -> u32 {
+    x.wrapping_mul(1664525).wrapping_add(1013904223)
 }
 
 // A number below an end from the upper half of a state, since the lower bits repeat early.
-fn below(end: usize, x: u64) -> usize
+fn below(end: usize, x: u32) -> usize
     requires { 0 < end }
     ensures { result < end }
 {
-    (x / 65536) as usize % end
+    (x >> 16) as usize % end
 }
 
 // A byte from each state; the state afterwards.
-pub fn draw_message(state: u64, message: &mut [u8; 8]) -> u64
-    requires { state < 4294967296 }
-    ensures { result < 4294967296 }
-{
+pub fn draw_message(state: u32, message: &mut [u8; 8]) -> u32 {
     let mut x = state;
-    for i in 0..8usize {
+    for byte in message.iter_mut() {
         x = next(x);
-        message[i] = below(256, x) as u8;
+        *byte = below(256, x) as u8;
     }
     x
 }
 
 pub fn in_order() -> [u8; 127] {
-    let mut places = [0u8; 127];
-    for i in 0..127u8 {
-        places[i as usize] = i;
-    }
-    places
+    std::array::from_fn(|i| i as u8)
 }
 
 // Puts any ten of the places first; the state afterwards.
-pub fn draw_places(state: u64, places: &mut [u8; 127]) -> u64
-    requires { state < 4294967296 }
-    ensures { result < 4294967296 }
-{
+pub fn draw_places(state: u32, places: &mut [u8; 127]) -> u32 {
     let mut x = state;
-    for i in 0..10usize {
+    for i in 0..10 {
         x = next(x);
-        let j = i + below(127 - i, x);
-        let place = places[j];
-        places[j] = places[i];
-        places[i] = place;
+        places.swap(i, i + below(127 - i, x));
     }
     x
 }

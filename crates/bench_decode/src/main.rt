@@ -8,12 +8,9 @@ mod draw;
 // what the channel does to a word
 mod channel;
 
-ghost use Rattle.std.specs.Prelude.{◌≤◌};
-
-use channel::{add_errors, same};
+use channel::add_errors;
 use code::decode::decode;
 use code::encode::encode;
-use document::types::Reply;
 use draw::{draw_message, draw_places, in_order};
 use std::io;
 
@@ -22,38 +19,23 @@ fn main(rt: HostRuntime) -> io::Result<()> {
     let sheet =
         b"\x1b\0\x7f\x09\x0a\0\x01\0\x13\0\x01\x03\x05\x07\x09\x0b\x0d\x0f\x13\x01\x01\x03\0\x01\0\x14\0";
     let mut places = in_order();
-    let mut state = 1u64;
-    let mut right = 0u64;
-    for i in 0..10000usize {
+    let mut state = 1;
+    let mut right = 0u32;
+    for i in 0..10000u32 {
         let mut message = [0u8; 8];
-        let x = draw_message(state, &mut message);
-        state = draw_places(x, &mut places);
-        right = right + corrected(sheet, &message, &places);
+        state = draw_message(state, &mut message);
+        state = draw_places(state, &mut places);
+        right += u32::from(corrected(sheet, &message, &places));
     }
     println!(rt; "{right} of 10000 words right")
 }
 
-// 1 where the message's codeword comes back from a word with errors at the first ten places, and else 0.
-fn corrected(sheet: &[u8], message: &[u8; 8], places: &[u8; 127]) -> u64
-    ensures { result ≤ 1 }
-{
+// Whether the message's codeword comes back from a word with errors at the first ten places.
+fn corrected(sheet: &[u8], message: &[u8; 8], places: &[u8; 127]) -> bool {
     let mut codeword = [0u8; 16];
-    encode(sheet, message, &mut codeword);
+    let encoded = encode(sheet, message, &mut codeword);
     let mut received = codeword;
     add_errors(places, &mut received);
-    if decoded(sheet, &received, &codeword) {
-        1
-    } else {
-        0
-    }
-}
-
-// Whether decoding changes ten places and gives the codeword.
-fn decoded(sheet: &[u8], received: &[u8; 16], codeword: &[u8; 16]) -> bool {
     let mut out = [0u8; 16];
-    let reply = decode(sheet, received, &mut out);
-    match reply {
-        Reply::Done(changed) => changed == 10 && same(&out, codeword),
-        Reply::Refused(_) => false,
-    }
+    encoded.is_ok() && decode(sheet, &received, &mut out) == Ok(10) && out == codeword
 }

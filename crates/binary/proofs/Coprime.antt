@@ -5,7 +5,7 @@
 --   both_yes, both_at          the test whether d divides a and b
 --   shared, none               a divisor that both have, of any size, and none
 --   SameDivisors a b x y       a and b have the divisors in common that x and y have
---   divisors_start, divisors_turn                before and in the loop
+--   divisors_turn                in the loop
 --   divisors_one, divisors_end                   after it, where y is 1 and where it is 0
 use mathlib.Core.Path.{◌≡◌, refl, sym, ap, ap₂, ◌∙◌}
 use mathlib.Core.Bool.{Bool, true, false, not, ◌&&◌, and_comm}
@@ -38,9 +38,6 @@ both d a b = eqb (a % d) 0 && eqb (b % d) 0
 
 pub record SameDivisors (a b x y : ℕ) : Type 0 where
   pub same : (d : ℕ) → 2 ≤ d → both d a b ≡ both d x y
-
-pub divisors_start : (a b : ℕ) → SameDivisors a b b a
-divisors_start a b = record { same = λ d h. and_comm (eqb (a % d) 0) (eqb (b % d) 0) }
 
 pub divisors_turn : {a b x y r : ℕ} → r ≡ x % y → SameDivisors a b x y → SameDivisors a b y r
 divisors_turn {a} {b} {x} {y} {r} e v = record {

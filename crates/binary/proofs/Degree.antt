@@ -3,13 +3,13 @@
 --   size_of, degree_of        the size and the degree of a mask from 2^j to below 2^(j + 1)
 --   degree_low, degree_high   so lies a mask that is not 0; degree_top: its leading coefficient is 1
 --   degree_zero, degree_pos, degree_le, degree_eq      degree of 0, bounds
---   degree_none, leading_small, degree_leading      by the count of leading zeros
+--   degree_none               of 0
 use mathlib.Core.Path.{◌≡◌, sym, ap, ◌∙◌, subst}
-use Prim.Native.Nat.{ℕ, zero, suc, ◌-◌, ◌/◌, ◌^◌, ◌≤◌, ◌<◌}
+use Prim.Native.Nat.{ℕ, zero, suc, ◌/◌, ◌^◌, ◌≤◌, ◌<◌}
 use native.Mathlib.Nat.{pow-suc, le_trans}
 use native.Mathlib.Decide.{dec_lt}
 use native.Mathlib.Omega.{arith}
-use lib.Count.{count_leading_zeros, leading_top}
+use lib.Count.{leading_top}
 use lib.Dec.{ltb}
 use lib.Pow.{pow_pos, pow_mono}
 use borrow.Author.Tests.{lt-ltb, le-ltb}
@@ -78,11 +78,3 @@ degree_eq (suc f) u e h = omega arith
 
 pub degree_none : (f : ℕ) → f ≡ 0 → 0 ≡ degree f
 degree_none f e = sym (ap degree e ∙ degree_zero)
-
-pub leading_small : (f : ℕ) → 0 < f → f < 2 ^ 32 → count_leading_zeros 32 f ≤ 31
-leading_small f p h = let t = leading_top 32 f p h in omega (arith, t.1)
-
-pub degree_leading : (f : ℕ) → 0 < f → f < 2 ^ 32 → 31 - count_leading_zeros 32 f ≡ degree f
-degree_leading f p h =
-    let t = leading_top 32 f p h in
-    let j : 31 - count_leading_zeros 32 f ≡ t.0 = omega (arith, t.1) in j ∙ sym (degree_of f t.0 t.2 t.3)

@@ -1,19 +1,19 @@
 -- Bits into packed polynomials, the highest first: products by Horner's rule, and the register of a division.
 --
---   ones_digit, all_ones, ones_fit, ones_sum, bit_lt      0 or 1 spread over a number, and back
+--   ones_digit, ones_sum, bit_lt      0 or 1 spread over a number, and back
 --   bits_more, sum_low        one bit more of a number's bits taken so far
 --   low_sum, split_mask       the lowest places of a sum, and a mask in two parts
---   times_start, times_more, times_end      a product, coefficient by coefficient
+--   times_start, times_more      a product, coefficient by coefficient
 --   raised_sum, raised_low    masks times a power of x
 --   stepped                   the remainder of x p + bit x^m by g, of degree m
 --   no_degree                 by a mask of degree 0
 --   top_of, top_is, top_lt     the highest place of a slice
 --   step_is                   one bit into a register
---   fed_selector, fed_step        so as the code feeds it
+--   fed_step                      so as the code feeds it
 use mathlib.Core.Path.{◌≡◌, refl, sym, ap, ap₂, ◌∙◌, subst}
 use mathlib.Core.List.{List}
 use Prim.Native.Nat.{ℕ, suc, ◌+◌, ◌-◌, ◌*◌, ◌/◌, ◌%◌, ◌^◌, ◌≤◌, ◌<◌}
-use native.Mathlib.Nat.{mul_assoc, mul_comm, mod-eq_of_lt, mod-lt, one-mul, zero-mul, div-one, div-eq_of_lt, div-add-mod', add-zero, add-mul-mod_self_right, mul-mod_left}
+use native.Mathlib.Nat.{mul_assoc, mul_comm, mod-eq_of_lt, mod-lt, one-mul, zero-mul, div-eq_of_lt, div-add-mod', add-zero, add-mul-mod_self_right, mul-mod_left}
 use native.Mathlib.Decide.{ℕ_discrete}
 use native.Mathlib.Omega.{arith}
 use lib.Bits.{bit_xor, bit_and, and_mask, xor_mod}
@@ -30,12 +30,6 @@ use Rattle.binary.proofs.Packing.{Words, joined_s, joined_lt, block_is}
 -- ---- a digit spread over a number
 pub ones_digit : (b : ℕ) → b < 2 → b * 18446744073709551615 % 2 ≡ b
 ones_digit = digit (λ b. b * 18446744073709551615 % 2 ≡ b) refl refl
-
-pub all_ones : (b : ℕ) → b < 2 → b * 18446744073709551615 ≡ b * 18446744073709551615 % 2 * 18446744073709551615
-all_ones = digit (λ b. b * 18446744073709551615 ≡ b * 18446744073709551615 % 2 * 18446744073709551615) refl refl
-
-pub ones_fit : (b : ℕ) → b < 2 → b * 18446744073709551615 < 2 ^ 64
-ones_fit b h = omega arith
 
 pub ones_sum : (a : ℕ) → a < 2 → (b : ℕ) → b < 2 → bit_xor (a * 18446744073709551615) (b * 18446744073709551615) ≡ (a ⊕ b) * 18446744073709551615
 unfolding ◌⊕◌
@@ -93,9 +87,6 @@ module _ (f p N : ℕ) (h : p < 2 ^ N) where
       (sym (mod-eq_of_lt (digit_times_lt N p h b two)) ∙ ap (λ (x : ℕ). x % 2 ^ N) (by_digit p b two))
       ∙ sym (low_sum N (clmul (q * 2) p) (clmul b p)) ∙ ap (λ (x : ℕ). x % 2 ^ N) (sym (clmul_add_l p (q * 2) b))
       ∙ ap (λ (x : ℕ). clmul x p % 2 ^ N) (sym (sum_low q b two) ∙ ap (λ (x : ℕ). q * 2 + x) e ∙ bits_more f i l)
-
-  pub times_end : (i x : ℕ) → i ≡ 0 → x ≡ clmul (f / 2 ^ i) p % 2 ^ N → x ≡ clmul f p % 2 ^ N
-  times_end i x e t = t ∙ ap (λ (y : ℕ). clmul y p % 2 ^ N) (ap (λ (k : ℕ). f / 2 ^ k) e ∙ div-one f)
 
 -- ---- masks times a power of x
 pub raised_sum : (a b k : ℕ) → (a ⊕ b) * 2 ^ k ≡ a * 2 ^ k ⊕ b * 2 ^ k
@@ -234,9 +225,6 @@ module _ (top bit : ℕ) (up : top < 2) (two : bit < 2) where
 
   fed_is : fed ≡ (top ⊕ bit) * 18446744073709551615
   fed_is = ones_sum top up bit two
-
-  pub fed_selector : fed ≡ fed % 2 * 18446744073709551615
-  fed_selector = fed_is ∙ all_ones (top ⊕ bit) by_lt ∙ ap (λ (x : ℕ). x % 2 * 18446744073709551615) (sym fed_is)
 
   pub fed_step : (f r r' : List ℕ) → Words r → top ≡ top_of r → length r ≡ length f → length r' ≡ length r → 1 ≤ length r
       → packed r' ≡ (packed r * 2 % 2 ^ places_in f) ⊕ fed % 2 * packed f → BitTaken bit f r r'

@@ -3,9 +3,8 @@
 --   denominator            a Modulus is a Denominator of the theory
 --   value_modulo_lem           Horner's rule gives P(x^n) modulo f
 --   independent_is         `independent` says what the theory's Independent does
---   times_start, times_more, times_room, times_end      a product modulo f
---   power_start, power_even, power_odd, power_end      a power of x modulo f
---   HeldUpTo, held_start, held_room, held_shift, held_more, held_end      the rows of powers
+--   power_start, power_even, power_odd      a power of x modulo f
+--   HeldUpTo, held_start, held_room, held_shift, held_more      the rows of powers
 --   powers_free            their rows are free exactly where Independent holds
 --   FreeFrom, free_start, pivot, free_more, free_fails, free_ends      the elimination
 use mathlib.Core.Path.{◌≡◌, refl, sym, ap, ap₂, ◌∙◌, subst}
@@ -13,19 +12,18 @@ use mathlib.Core.Logic.Iff
 use mathlib.Core.Logic.{◌≢◌, ◌↔◌}
 use mathlib.Core.Bool.{Bool, true, false, not}
 use Prim.Native.Nat.{ℕ, zero, suc, ◌+◌, ◌-◌, ◌*◌, ◌/◌, ◌%◌, ◌^◌, ◌≤◌, ◌<◌}
-use native.Mathlib.Nat.{zero-mul, one-mul, mul-zero, mul-one, mul_assoc, div-one, div-eq_of_lt, mod-eq_of_lt, pow-suc, sub-zero}
+use native.Mathlib.Nat.{zero-mul, one-mul, mul-zero, mul-one, mul_assoc, mod-eq_of_lt, pow-suc, sub-zero}
 use native.Mathlib.Numerals.{add-one}
 use native.Mathlib.Omega.{arith}
 use native.Mathlib.Decide.{ℕ_discrete}
-use lib.Bits.{bit_xor}
 use lib.Dec.{eqb}
 use lib.Pow.{pow_mono, pow-add, shr-shr}
 use borrow.Author.Tests.{eqb-true, eqb-false}
 use Rattle.field.specs.Search.{up_to, every}
 use Rattle.field.proofs.Search.{every_at, every_of, true_ne_false}
 use Rattle.field.specs.Mask.{◌⊕◌, coefficient, clmul, remainder}
-use Rattle.field.proofs.Xor.{digit, digit_lt, ⊕-comm, ⊕-split}
-use Rattle.field.proofs.MaskProduct.{clmul_pow, clmul_zero_r, clmul_one_r, clmul_dbl_r, clmul_add_r}
+use Rattle.field.proofs.Xor.{digit, digit_lt, ⊕-comm}
+use Rattle.field.proofs.MaskProduct.{clmul_pow}
 use Rattle.field.proofs.Remainder.{remainder_zero, remainder_small, remainder_add, remainder_mul_l, remainder_mul_r}
 use Rattle.cyclic.proofs.Division.{divides_iff}
 use Rattle.cyclic.proofs.Spread.{spread, spread_zero, spread_step}
@@ -135,40 +133,6 @@ module _ {f u : ℕ} (m : Modulus f u) where
   doubled : (a : ℕ) → rem (rem a * 2) ≡ rem (a * 2)
   doubled a = ap rem (sym (clmul_pow (rem a) 1)) ∙ left a 2 ∙ ap rem (clmul_pow a 1)
 
-  -- ---- a b, by the coefficients of b from the highest down
-  pub times_start : (a b : ℕ) → b < 2 ^ u → 0 ≡ remainder u f (clmul a (b / 2 ^ u))
-  unfolding rem
-  times_start a b h =
-      let z : b / 2 ^ u ≡ 0 = div-eq_of_lt h in
-      sym (ap (λ (x : ℕ). rem (clmul a x)) z ∙ ap rem (clmul_zero_r a) ∙ zero_is)
-
-  pub times_more : (a b i x y : ℕ) → a < 2 ^ u → 0 < i → x ≡ remainder u f (clmul a (b / 2 ^ i)) → y ≡ remainder u f (x * 2)
-      → bit_xor y ((b / 2 ^ (i - 1) % 2) * a) ≡ remainder u f (clmul a (b / 2 ^ (i - 1)))
-  unfolding rem ◌⊕◌
-  times_more a b i x y h p ex ey =
-      let q : ℕ = b / 2 ^ (i - 1) in
-      let j : i - 1 + 1 ≡ i = omega arith in
-      let half : b / 2 ^ i ≡ q / 2 = ap (λ (k : ℕ). b / 2 ^ k) (sym j) ∙ sym (shr-shr b (i - 1) 1) in
-      let low : q % 2 < 2 = digit_lt q in
-      let whole : q / 2 * 2 ⊕ q % 2 ≡ q = ⊕-split q in
-      ap₂ ◌⊕◌
-      (ey ∙ ap (λ (k : ℕ). rem (k * 2)) (ex ∙ ap (λ (k : ℕ). rem (clmul a k)) half) ∙ doubled (clmul a (q / 2))
-      ∙ ap rem (sym (clmul_dbl_r a (q / 2))))
-      (one (q % 2) low)
-      ∙ sym (add (clmul a (q / 2 * 2)) (clmul a (q % 2))) ∙ ap rem (sym (clmul_add_r a (q / 2 * 2) (q % 2)) ∙ ap (clmul a) whole)
-    where
-      one : (b : ℕ) → b < 2 → b * a ≡ rem (clmul a b)
-      one =
-          digit (λ b. b * a ≡ rem (clmul a b)) (zero-mul a ∙ sym (ap rem (clmul_zero_r a) ∙ zero_is))
-          (one-mul a ∙ sym (ap rem (clmul_one_r a) ∙ small a h))
-
-  pub times_end : (a b i x : ℕ) → i ≡ 0 → x ≡ remainder u f (clmul a (b / 2 ^ i)) → x ≡ remainder u f (clmul a b)
-  times_end a b i x z e = e ∙ ap (λ (k : ℕ). remainder u f (clmul a (b / 2 ^ k))) z ∙ ap (λ (k : ℕ). remainder u f (clmul a k)) (div-one b)
-
-  pub times_room : (a x : ℕ) → a < 2 ^ u → x % 2 * a < 256
-  times_room a x h =
-      digit (λ b. b * a < 256) (omega arith) (omega (arith, modulus_cap m)) (x % 2) (digit_lt x)
-
   -- ---- x^n, by the digits of n from the highest down
   pub power_start : (n i x : ℕ) → 0 < n → i ≡ degree n → x ≡ remainder u f (1 * 2) → x ≡ remainder u f (2 ^ (n / 2 ^ i))
   power_start n i x h d e = e ∙ ap (λ (k : ℕ). remainder u f (2 ^ k)) (sym (ap (λ (k : ℕ). n / 2 ^ k) d ∙ degree_top n h))
@@ -199,9 +163,6 @@ module _ {f u : ℕ} (m : Modulus f u) where
       let e : suc k ≡ n / 2 ^ (i - 1) = omega (arith, halves n i p, o) in
       ez ∙ ap (λ (v : ℕ). rem (v * 2)) (ey ∙ squared x (n / 2 ^ i) ex) ∙ doubled (2 ^ k)
       ∙ ap rem (sym (pow-suc 2 k)) ∙ ap (λ (j : ℕ). rem (2 ^ j)) e
-
-  pub power_end : (n i x : ℕ) → i ≡ 0 → x ≡ remainder u f (2 ^ (n / 2 ^ i)) → x ≡ remainder u f (2 ^ n)
-  power_end n i x z e = e ∙ ap (λ (k : ℕ). remainder u f (2 ^ (n / 2 ^ k))) z ∙ ap (λ (k : ℕ). remainder u f (2 ^ k)) (div-one n)
 
   -- ---- the rows
   pub held_start : (n : ℕ) → HeldUpTo u f n 1 1 1
@@ -255,9 +216,6 @@ module _ {f u : ℕ} (m : Modulus f u) where
           ap (row_at (w + b * 2 ^ (8 * i))) e ∙ row_put i w b h.below (next_lt (clmul a y) eb) ∙ held_next y b h ey eb
           ∙ ap (λ (k : ℕ). rem (2 ^ (n * k))) (sym e)
       go j l (no e) = row_kept i w b j (omega arith) ∙ h.rows.is j (omega arith)
-
-  pub held_end : {n i w a : ℕ} → HeldUpTo u f n i w a → i ≡ u → PowersHeld u f n u w
-  held_end {n} {i} {w} h e = subst (λ (k : ℕ). PowersHeld u f n k w) e h.rows
 
   -- ---- combinations of the powers
   combined : (n k i P : ℕ) → P < 2 ^ k

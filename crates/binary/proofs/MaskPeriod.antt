@@ -1,6 +1,6 @@
 -- The period of a mask f of degree u with constant term 1: it exists, and is below 2^u.
 --
---   modulus_top, modulus_lt, modulus_two, modulus_cap      what `Modulus f u` gives of f and of 2^u
+--   modulus_top, modulus_degree, modulus_lt, modulus_small, modulus_two, modulus_cap      what `Modulus f u` gives of f and of 2^u
 --   one_iff                   x^k is 1 modulo f exactly when f divides x^k + 1
 --   period_divides, period_one, period_least      f divides x^p + 1 for p = period f, and for no smaller p above 0
 --   period_pos, period_lt     0 < p < 2^u
@@ -9,7 +9,7 @@ use mathlib.Core.Path.{◌≡◌, refl, sym, ap, ◌∙◌, subst}
 use mathlib.Core.Logic.{◌≢◌, ◌↔◌}
 use mathlib.Core.Bool.{Bool, true}
 use Prim.Native.Nat.{ℕ, zero, suc, pred, ◌+◌, ◌-◌, ◌*◌, ◌/◌, ◌%◌, ◌^◌, ◌≤◌, ◌<◌}
-use native.Mathlib.Nat.{pow-suc}
+use native.Mathlib.Nat.{pow-suc, lt_of_lt_of_le}
 use native.Mathlib.Decide.{dec_lt}
 use native.Mathlib.Numerals.{add-one}
 use native.Mathlib.Omega.{arith}
@@ -18,7 +18,7 @@ use lib.Dec.{eqb}
 use lib.Pow.{pow_mono}
 use borrow.Author.Tests.{eqb-true, eqb-false, eq-eqb}
 use Rattle.field.specs.Search.{least}
-use Rattle.field.specs.Mask.{◌⊕◌, remainder}
+use Rattle.field.specs.Mask.{◌⊕◌, remainder, HasDegree}
 use Rattle.field.proofs.Search.{least_is, least_most}
 use Rattle.field.proofs.Xor.{digit, digit_lt, ⊕-zero-r, ⊕-self, ⊕-eq, sel}
 use Rattle.field.proofs.Remainder.{xtime, xtime_add, remainder_lt, remainder_add, remainder_small, remainder_dbl}
@@ -34,8 +34,14 @@ module _ {f u : ℕ} (m : Modulus f u) where
   modulus_top =
       ap (λ (s : ℕ). f / 2 ^ s) m.is ∙ degree_top f (degree_eq f u m.is m.lo)
 
+  pub modulus_degree : HasDegree u f
+  modulus_degree = record { lo = m.lo; hi = omega (arith, m.hi); top = modulus_top }
+
   pub modulus_lt : f < 2 ^ suc u
   modulus_lt = subst (λ (s : ℕ). f < 2 ^ suc s) (sym m.is) (degree_high f (degree_eq f u m.is m.lo))
+
+  pub modulus_small : f < 512
+  modulus_small = lt_of_lt_of_le modulus_lt (pow_mono {i = suc u} {j = 9} (omega (arith, m.hi)))
 
   pub modulus_two : 2 ≤ 2 ^ u
   modulus_two = pow_mono m.lo

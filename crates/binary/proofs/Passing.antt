@@ -8,10 +8,9 @@
 --   packed_one       x^i in place of 0; packed_past: or nothing, past the last number
 --   packed_none      numbers that are all 0
 --   Handing, handing_start, handing_more, handing_end      a slice handed over
---   Empty, empty_start, empty_more, empty_end, empty_not      the test for 0
+--   none_is          the test for 0
 use mathlib.Core.Path.{◌≡◌, refl, sym, ap, ap₂, ◌∙◌, subst}
-use mathlib.Core.Logic.{◌≢◌}
-use mathlib.Core.Bool.{true, false}
+use mathlib.Core.Bool.{◌&&◌}
 use mathlib.Core.List.{List}
 use Prim.Native.Nat.{ℕ, zero, suc, ◌+◌, ◌-◌, ◌*◌, ◌/◌, ◌%◌, ◌^◌, ◌≤◌, ◌<◌}
 use native.Mathlib.Nat.{zero-mul, one-mul, zero-div, mod-eq_of_lt}
@@ -20,9 +19,11 @@ use native.Mathlib.Decide.{ℕ_discrete, dec_lt}
 use native.Mathlib.Omega.{arith}
 use lib.Bits.{bit_xor, bit_and, and_zero_r, and_mask}
 use lib.Dec.{eqb}
-use lib.ListN.{length, get_or, set, length-set, get_or-eq_default}
+use lib.ListN.{length, get_or, set, take, length-set, get_or-eq_default}
 use lib.Pow.{shl-shr, pow_pos, pow-lt, pow-add}
-use lib.Seq.{get_or-set_same, get_or-set_other}
+use lib.Seq.{get_or-set_same, get_or-set_other, take-length}
+use Rattle.std.specs.List.{list_all}
+use Rattle.std.proofs.lemmas.List.Folds.{list_all_more}
 use borrow.Author.Tests.{eq-eqb, ne_eqb}
 use Rattle.field.specs.Mask.{◌⊕◌, coefficient}
 use Rattle.field.proofs.Xor.{digit, digit_lt, bit_ext}
@@ -217,23 +218,26 @@ handing_end {n} {p₀} {p} {q} e lp lq t = (
   ap (λ (k : ℕ). joined k (entries p)) (lp ∙ sym e) ∙ joined_same n (entries p) (λ i. 0) t.clear ∙ all_none n,
 )
 
--- ---- the test for 0
-pub record Empty (n : ℕ) (l : List ℕ) : Type 0 where
-  pub is : joined n (λ i. get_or l i 0) ≡ 0
+-- the test for 0, number by number
+both_none : (x y k : ℕ) → eqb y 0 && eqb x 0 ≡ eqb (x * 2 ^ k + y) 0
+both_none x y k =
+    go (ℕ_discrete y 0) (ℕ_discrete x 0)
+  where
+    go : Dec (y ≡ 0) → Dec (x ≡ 0) → eqb y 0 && eqb x 0 ≡ eqb (x * 2 ^ k + y) 0
+    go (yes p) (yes q) =
+        ap₂ ◌&&◌ (eq-eqb y 0 p) (eq-eqb x 0 q)
+        ∙ sym (eq-eqb (x * 2 ^ k + y) 0 (ap₂ (λ (a b : ℕ). a * 2 ^ k + b) q p ∙ ap (λ (a : ℕ). a + 0) (zero-mul (2 ^ k))))
+    go (yes p) (no q) =
+        ap₂ ◌&&◌ (eq-eqb y 0 p) (ne_eqb x 0 q) ∙ sym (ne_eqb (x * 2 ^ k + y) 0 (λ e. q (zero_of x k (omega arith))))
+    go (no p) c = ap (λ b. b && eqb x 0) (ne_eqb y 0 p) ∙ sym (ne_eqb (x * 2 ^ k + y) 0 (λ e. p (omega arith)))
 
-pub empty_start : {l : List ℕ} → Empty 0 l
-empty_start {l} = record { is = joined_z (entries l) }
+none_below : (l : List ℕ) (n : ℕ) → n ≤ length l → list_all (λ x. eqb x 0) (take n l) ≡ eqb (joined n (entries l)) 0
+none_below l zero h = sym (eq-eqb (joined 0 (entries l)) 0 (joined_z (entries l)))
+none_below l (suc n) h =
+    ap (λ (k : ℕ). list_all (λ x. eqb x 0) (take k l)) (sym (add-one n)) ∙ list_all_more (λ x. eqb x 0) l n 0 (omega arith)
+    ∙ ap (λ b. b && eqb (get_or l n 0) 0) (none_below l n (omega arith)) ∙ both_none (get_or l n 0) (joined n (entries l)) (64 * n)
+    ∙ ap (λ (x : ℕ). eqb x 0) (sym (joined_s n (entries l)))
 
-pub empty_more : {n : ℕ} {l : List ℕ} → Empty n l → get_or l n 0 ≡ 0 → Empty (n + 1) l
-empty_more {n} {l} t e = record {
-  is = ap (λ (k : ℕ). joined k (entries l)) (add-one n) ∙ joined_s n (entries l)
-      ∙ ap₂ (λ (x y : ℕ). x * 2 ^ (64 * n) + y) e t.is ∙ ap (λ (x : ℕ). x + 0) (zero-mul (2 ^ (64 * n)));
-}
-
-pub empty_end : {n : ℕ} {l : List ℕ} → n ≡ length l → Empty n l → true ≡ eqb (packed l) 0
+pub none_is : (l : List ℕ) → list_all (λ x. eqb x 0) l ≡ eqb (packed l) 0
 unfolding packed
-empty_end {n} {l} e t = sym (eq-eqb (joined (length l) (entries l)) 0 (ap (λ (k : ℕ). joined k (entries l)) (sym e) ∙ t.is))
-
-pub empty_not : (l : List ℕ) (i : ℕ) → i < length l → get_or l i 0 ≢ 0 → false ≡ eqb (packed l) 0
-unfolding packed
-empty_not l i b n = sym (ne_eqb (joined (length l) (entries l)) 0 (λ e. n (joined_none (length l) (entries l) e i b)))
+none_is l = ap (list_all (λ x. eqb x 0)) (sym (take-length l)) ∙ none_below l (length l) (omega arith)

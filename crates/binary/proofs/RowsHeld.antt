@@ -3,12 +3,12 @@
 --   row_first, row_next       row 0, and the rows of w / 256
 --   row_kept, row_put, rows_lt       a row put above i others
 --   ones_row                  the coefficients of x^t of all rows, by one shift and one mask
---   ones_room, rows_struck    the strike of the code
+--   rows_struck                the strike of the code
 use mathlib.Core.Path.{◌≡◌, refl, sym, ap, ap₂, ◌∙◌, subst}
 use Prim.Native.Nat.{ℕ, zero, suc, ◌+◌, ◌*◌, ◌/◌, ◌%◌, ◌^◌, ◌≤◌, ◌<◌}
-use native.Mathlib.Nat.{div-one, mul_assoc, mul-le-mul, mul-le-mul_right}
+use native.Mathlib.Nat.{div-one, mul_assoc, mul-le-mul_right}
 use native.Mathlib.Omega.{arith}
-use lib.Bits.{bit_and, bit_xor, and_shr, and_mod, and_mask, and_le_r}
+use lib.Bits.{bit_and, bit_xor, and_shr, and_mod, and_mask}
 use lib.Dec.{eqb}
 use lib.Pow.{pow-add, shr-shr, mod-mod-pow}
 use borrow.Author.Tests.{eqb-true}
@@ -106,12 +106,6 @@ ones_row w t i ht hi =
     ap (λ (x : ℕ). x % 2 ^ 8) (and_shr (w / 2 ^ t) lowest (8 * i)) ∙ and_mod (w / 2 ^ t / 2 ^ (8 * i)) (lowest / 2 ^ (8 * i)) 8
     ∙ ap₂ bit_and (ap (λ (x : ℕ). x % 2 ^ 8) turn) (lowest_row i hi) ∙ and_mask (y / 2 ^ t % 2 ^ 8) 1
     ∙ mod-mod-pow (y / 2 ^ t) 7 1 ∙ sym (digit_low t 8 y ht)
-
-pub ones_room : (a v : ℕ) → v < 256 → bit_and a lowest * v < 2 ^ 64
-ones_room a v h =
-    let k : v ≤ 255 = omega arith in
-    let m : bit_and a lowest * v ≤ lowest * 255 = mul-le-mul (and_le_r a lowest) k in
-    omega arith
 
 pub rows_struck : (w t : ℕ) → t < 8 → RowsStruck t w (bit_xor w (bit_and (w / 2 ^ t) lowest * (w % 256)) / 256)
 unfolding ◌⊕◌

@@ -24,15 +24,14 @@ fn remainder(a: usize, b: usize) -> usize
 {
     let s = degree(b);
     let mut r = a;
-    let mut i = 9 - s;
-    while i > 0 {
-        i = i - 1;
+    for i in (0..9 - s).rev() {
         r = strike(r, b, s, i);
     }
     r
 }
 
-// x and y keep the divisors that f and h have in common: at the end y is 0 and x divides both, or y is 1 and none does.
+// x and y keep the divisors that f and h have in common: at the end y is 0 and x divides both, or y is 1 and none does. factor::coprime
+// is Euclid's algorithm on numbers; one function for both would ask for the remainder and its two laws, and be longer than this loop.
 pub fn common(f: usize, h: usize) -> bool
     requires { Ratio f h }
     ensures { result ≡ commonOf f h }

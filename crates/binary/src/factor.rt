@@ -14,18 +14,12 @@ pub fn coprime(a: usize, b: usize) -> bool
         x = y;
         y = r;
     }
-    if y == 1 {
-        return true;
-    }
-    x == 1
+    y == 1 || x == 1
 }
 
 pub fn degree(f: usize) -> usize
     requires { f < 65536 }
     ensures { result ≡ degree_of f }
 {
-    if f == 0 {
-        return 0;
-    }
-    (31 - u32::leading_zeros(f as u32)) as usize
+    if f == 0 { 0 } else { f.ilog2() as usize }
 }

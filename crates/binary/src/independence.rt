@@ -1,36 +1,21 @@
 // Whether the first u powers of x^n, which are 1, x^n, .. x^((u-1)n), are linearly independent modulo a mask f of degree u: the exact test
 // of rule 3. They stand as rows of 8 places in one number, and each row in turn is taken off those after it.
+// `Modulus f u` stands in three contracts here: f and its degree come from one call, and a struct of the two would be taken apart in each.
 ghost use Rattle.std.specs.Prelude.{◌≡◌, ◌^◌, ◌<◌};
-ghost use Rattle.field.specs.Mask.{clmul, remainder as remainderOf};
+ghost use Rattle.field.specs.Mask.{remainder as remainderOf};
 ghost use Rattle.binary.specs.Factor.{Modulus};
 ghost use Rattle.binary.specs.Independence.{independent as independentOf, PowersHeld, RowsStruck};
 
 use crate::factor::degree;
-use crate::period::times_x;
-
-// a b modulo f, by the coefficients of b from the highest down.
-fn times_modulo(f: usize, u: usize, a: usize, b: usize) -> usize
-    requires { Modulus f u × (a < 2 ^ u) × (b < 2 ^ u) }
-    ensures { result ≡ remainderOf u f (clmul a b) }
-{
-    let mut r: usize = 0;
-    let mut i = u;
-    while i > 0 {
-        i = i - 1;
-        r = times_x(f, u, r) ^ (((b >> i) % 2) * a);
-    }
-    r
-}
+use field::product::{times_modulo, times_x};
 
 // x^n modulo f, by squares: the digits of n from the highest down.
-fn power_modulo(f: usize, u: usize, n: usize) -> usize
+fn power_modulo(f: u16, u: usize, n: usize) -> u16
     requires { Modulus f u × (0 < n) × (n < 65536) }
     ensures { result ≡ remainderOf u f (2 ^ n) }
 {
     let mut r = times_x(f, u, 1);
-    let mut i = degree(n);
-    while i > 0 {
-        i = i - 1;
+    for i in (0..degree(n)).rev() {
         r = times_modulo(f, u, r, r);
         if (n >> i) % 2 == 1 {
             r = times_x(f, u, r);
@@ -40,18 +25,16 @@ fn power_modulo(f: usize, u: usize, n: usize) -> usize
 }
 
 // 1, x^n, x^(2n), .. modulo f, u of them, as rows.
-fn power_rows(f: usize, u: usize, n: usize) -> u64
+fn power_rows(f: u16, u: usize, n: usize) -> u64
     requires { Modulus f u × (0 < n) × (n < 65536) }
     ensures { PowersHeld u f n u result }
 {
     let y = power_modulo(f, u, n);
     let mut rows: u64 = 1;
-    let mut a: usize = 1;
-    let mut i: usize = 1;
-    while i < u {
+    let mut a = 1u16;
+    for i in 1..u {
         a = times_modulo(f, u, a, y);
-        rows = rows + ((a as u64) << (8 * i));
-        i = i + 1;
+        rows += (a as u64) << (8 * i);
     }
     rows
 }
@@ -70,14 +53,12 @@ pub fn independent(n: usize, f: usize, u: usize) -> bool
     requires { Modulus f u × (0 < n) × (n < 65536) }
     ensures { result ≡ independentOf n u f }
 {
-    let mut rows = power_rows(f, u, n);
-    let mut turn: usize = 0;
-    while turn < u {
+    let mut rows = power_rows(f as u16, u, n);
+    for turn in 0..u {
         if rows % 256 == 0 {
             return false;
         }
         rows = strike_rows(rows, degree((rows % 256) as usize));
-        turn = turn + 1;
     }
     true
 }

@@ -1,13 +1,13 @@
--- One certificate against its four rules, with the code's locals.
+-- One certificate against its four rules, and what rule 1 gives the code that checks the others.
 --
---   check_7 .. check_10, check_pass      one law for each exit of the check
---   ratio_of, modulus_of, walkable_of      what rule 1 gives the functions that test the others
---   distance_is                 the distance by the code's sum
+--   check_pass                 a certificate that keeps all four is answered by its distance
+--   ratio_of, modulus_of, walkable_of      what the functions that test them need
+--   quotient_le                a distance is at most 8 above the number of terms
 use mathlib.Core.Path.{◌≡◌, refl, sym, ap, ap₂, ◌∙◌}
 use mathlib.Core.Logic.{◌≢◌}
 use mathlib.Core.Bool.{Bool, true, false, not}
 use mathlib.Core.List.{List, [], ◌∷◌}
-use Prim.Native.Nat.{ℕ, suc, ◌+◌, ◌-◌, ◌/◌, ◌^◌, ◌≤◌, ◌<◌}
+use Prim.Native.Nat.{ℕ, suc, ◌+◌, ◌/◌, ◌^◌, ◌≤◌, ◌<◌}
 use native.Mathlib.Nat.{div-le_self}
 use native.Mathlib.Omega.{arith}
 use lib.ListN.{length}
@@ -16,7 +16,7 @@ use Rattle.field.specs.Field.{order_of_two}
 use Rattle.binary.specs.Factor.{degree, common, Modulus, Ratio}
 use Rattle.binary.proofs.Degree.{degree_low, degree_high, degree_eq}
 use Rattle.sheet.specs.declared.types.Certificate.{Certificate as CodeCertificate}
-use Rattle.document.specs.Answer.{Answer, returned, refused, first_of, settle_in, settle}
+use Rattle.document.specs.Answer.{Answer, returned, first_of, settle_in, settle}
 use Rattle.document.specs.Sheet.{Certificate}
 use Rattle.document.specs.Apart.{factors_apart}
 use Rattle.document.specs.Certificate.{rule1, rule2, rule3, rule4, distance}
@@ -28,23 +28,6 @@ use Rattle.certificate.proofs.Ranges.{Ranged}
 -- the answer by the four conditions
 abbrev four : Bool → Bool → Bool → Bool → List ℕ → Answer
 four a b c d v = (settle (first_of ((7, a) ∷ (8, b) ∷ (9, c) ∷ (10, d) ∷ [])) v [] []).0
-
-hit_7 : (a b c d : Bool) (v : List ℕ) → a ≡ true → refused 7 ≡ four a b c d v
-unfolding first_of settle_in
-hit_7 a b c d v e = ap (λ x. four x b c d v) (sym e)
-
-hit_8 : (a b c d : Bool) (v : List ℕ) → a ≡ false → b ≡ true → refused 8 ≡ four a b c d v
-unfolding first_of settle_in
-hit_8 a b c d v e f = ap₂ (λ x y. four x y c d v) (sym e) (sym f)
-
-hit_9 : (a b c d : Bool) (v : List ℕ) → a ≡ false → b ≡ false → c ≡ true → refused 9 ≡ four a b c d v
-unfolding first_of settle_in
-hit_9 a b c d v e f g = ap (λ z. four false false z d v) (sym g) ∙ ap₂ (λ x y. four x y c d v) (sym e) (sym f)
-
-hit_10 : (a b c d : Bool) (v : List ℕ) → a ≡ false → b ≡ false → c ≡ false → d ≡ true → refused 10 ≡ four a b c d v
-unfolding first_of settle_in
-hit_10 a b c d v e f g h =
-    ap₂ (λ z w. four false false z w v) (sym g) (sym h) ∙ ap₂ (λ x y. four x y c d v) (sym e) (sym f)
 
 miss : (a b c d : Bool) (v : List ℕ) → a ≡ false → b ≡ false → c ≡ false → d ≡ false → returned v ≡ four a b c d v
 unfolding first_of settle_in
@@ -61,26 +44,9 @@ module _ (most n : ℕ) (k : Certificate) (z : List ℕ) where
   not_not true = refl
   not_not false = refl
 
-  pub check_7 : true ≡ not (rule1 most n k) → CheckedBy most n k z (refused 7)
-  check_7 a = record { is = λ reps m. hit_7 _ _ _ _ _ (sym a) ∙ sym (check_is reps) }
-
   module _ (a : false ≡ not (rule1 most n k)) where
-    pub check_8 : common k.f k.h ≡ true → CheckedBy most n k z (refused 8)
-    unfolding rule2
-    check_8 b = record { is = λ reps m. hit_8 _ _ _ _ _ (sym a) (not_not (common k.f k.h) ∙ b) ∙ sym (check_is reps) }
-
     module _ (b : common k.f k.h ≡ false) where
-      pub check_9 : true ≡ not (factors_apart (order_of_two n) n k.f) → CheckedBy most n k z (refused 9)
-      unfolding rule2 rule3
-      check_9 c = record { is = λ reps m. hit_9 _ _ _ _ _ (sym a) (not_not (common k.f k.h) ∙ b) (sym c) ∙ sym (check_is reps) }
-
       module _ (c : false ≡ not (factors_apart (order_of_two n) n k.f)) where
-        pub check_10 : Ruled n k z true → CheckedBy most n k z (refused 10)
-        unfolding rule2 rule3
-        check_10 d = record {
-          is = λ reps m. hit_10 _ _ _ _ _ (sym a) (not_not (common k.f k.h) ∙ b) (sym c) (sym (d.is reps m)) ∙ sym (check_is reps);
-        }
-
         pub check_pass : Ruled n k z false → {x : ℕ} → x ≡ distance k → CheckedBy most n k z (returned (x ∷ []))
         unfolding rule2 rule3
         check_pass d q = record {
@@ -128,11 +94,6 @@ module _ {n : ℕ} {c : CodeCertificate} (r : Ranged n (certificate_as c)) where
     few = few;
     long = long;
   }
-
-pub distance_is : (c : CodeCertificate) {u v x : ℕ} → u ≡ degree c.f → v ≡ degree c.h → x ≡ (c.terms - v + (u - 1)) / u + 1
-    → x ≡ distance (certificate_as c)
-unfolding distance
-distance_is c a b e = e ∙ ap₂ (λ (u v : ℕ). (c.terms - v + (u - 1)) / u + 1) a b
 
 pub quotient_le : (a u L : ℕ) → a ≤ L + 7 → a / u + 1 ≤ L + 8
 quotient_le a u L h = omega (arith, div-le_self a u)

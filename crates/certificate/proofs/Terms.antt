@@ -50,14 +50,14 @@ pub record Going (n : ℕ) (c : CodeCertificate) (z : List ℕ) (j num at : ℕ)
   pub kept : (k : ℕ) → k < j → register c.f c.h k % 2 ≤ get_or z ((c.b + k * c.z) % n) 0
 
 module _ {n : ℕ} {c : CodeCertificate} {z : List ℕ} (w : Walkable n c z) where
-  pub at_start : At n c 0 c.h c.b
-  at_start = record {
-    num_is = sym (register_z c.f c.h);
-    at_is = sym (ap (λ (x : ℕ). (c.b + x) % n) (zero-mul c.z) ∙ ap (λ (x : ℕ). x % n) (add-zero c.b) ∙ mod-eq_of_lt w.start);
+  pub at_start : {num at : ℕ} → num ≡ c.h → at ≡ c.b → At n c 0 num at
+  at_start p q = record {
+    num_is = p ∙ sym (register_z c.f c.h);
+    at_is = q ∙ sym (ap (λ (x : ℕ). (c.b + x) % n) (zero-mul c.z) ∙ ap (λ (x : ℕ). x % n) (add-zero c.b) ∙ mod-eq_of_lt w.start);
   }
 
-  pub going_start : Going n c z 0 c.h c.b
-  going_start = record { now = at_start; kept = λ k h. absurd (omega arith) }
+  pub going_start : {num at : ℕ} → num ≡ c.h → at ≡ c.b → Going n c z 0 num at
+  going_start p q = record { now = at_start p q; kept = λ k h. absurd (omega arith) }
 
   pub f_fits : c.f < 512
   f_fits =

@@ -1,23 +1,16 @@
 -- What the check of a certificate passes on. No entry's contract cites this file.
 --
 --   Walkable, Ruled    what the walk over the terms needs, and says
---   checked_as, distance_in      what a certificate's check means in the paper's numbers, and the distance in it
 --   check_of, Checkable, CheckedBy      what the check of one certificate is to say, needs, and says
 use Rattle.std.specs.Prelude.{◌≡◌, Bool, not, List, [], ◌∷◌, ℕ, suc, ◌%◌, ◌^◌, ◌≤◌, ◌<◌, length}
 use Rattle.binary.specs.Factor.{degree}
 use Rattle.sheet.specs.declared.types.Certificate.{Certificate as CodeCertificate}
-use Rattle.certificate.specs.declared.types.Checked.{Checked}
-use Rattle.certificate.specs.declared.types.Checked.TheVariants.{Distance, Refused}
-use Rattle.document.specs.Answer.{Answer, returned, refused, number_of, first_of, settle}
+use Rattle.document.specs.Answer.{Answer, first_of, settle}
 use Rattle.document.specs.Sheet.{Certificate}
 use Rattle.document.specs.Certificate.{rule4, distance}
 use Rattle.document.specs.Judge.{certificate_conditions}
 use Rattle.document.proofs.Theory.{Length}
 use Rattle.sheet.specs.Stage.{Marks}
-
-abbrev pub checked_as : Checked → Answer
-checked_as (Distance d) = returned (d ∷ [])
-checked_as (Refused r) = refused (number_of r)
 
 -- what the walk over the terms needs: start and step below n, f of degree at most 8, h of smaller degree
 pub record Walkable (n : ℕ) (c : CodeCertificate) (z : List ℕ) : Type 0 where
@@ -34,10 +27,6 @@ pub record Walkable (n : ℕ) (c : CodeCertificate) (z : List ℕ) : Type 0 wher
 -- rule 4 over the set that z marks
 pub record Ruled (n : ℕ) (c : Certificate) (z : List ℕ) (wrong : Bool) : Type 0 where
   pub is : (reps : List ℕ) → Marks n reps z → wrong ≡ not (rule4 n reps c)
-
-abbrev pub distance_in : Checked → ℕ
-distance_in (Distance d) = d
-distance_in (Refused r) = 0
 
 -- what the check of a certificate says, and needs
 unfoldable pub check_of : ℕ → ℕ → List ℕ → Certificate → Answer

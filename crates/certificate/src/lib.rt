@@ -1,9 +1,6 @@
 // A certificate held to its four rules in turn, and its distance; what it proves of the code (proofs).
 #![tactic(auto)]
 
-// what a certificate's check answers
-pub mod types;
-
 // rule 1
 pub mod range;
 

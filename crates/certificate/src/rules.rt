@@ -24,16 +24,14 @@ pub fn wrong_terms(n: usize, c: Certificate, zeros: &[u8]) -> bool
     requires { Walkable n c zeros.now }
     ensures { Ruled n (certificate_as c) zeros.now result }
 {
-    let mut num = c.h as usize;
-    let mut at = c.b as usize;
-    let mut j: usize = 0;
-    while j < (c.terms as usize) {
-        if (zeros[at] as usize) < num % 2 {
+    let mut num = usize::from(c.h);
+    let mut at = usize::from(c.b);
+    for _term in 0..c.terms {
+        if usize::from(zeros[at]) < num % 2 {
             return true;
         }
-        num = next_register(c.f as usize, num);
-        at = step(n, at, c.z as usize);
-        j = j + 1;
+        num = next_register(usize::from(c.f), num);
+        at = step(n, at, usize::from(c.z));
     }
     false
 }
@@ -44,8 +42,6 @@ pub fn factors_shared(n: usize, f: usize, u: usize) -> bool
     requires { Modulus f u × Length n }
     ensures { result ≡ not (factors_apart (order_of_two n) n f) }
 {
-    if binary::factor::coprime(binary::period::period(f, u), n) {
-        return false;
-    }
-    !binary::independence::independent(n, f, u)
+    !binary::factor::coprime(binary::period::period(f, u), n)
+        && !binary::independence::independent(n, f, u)
 }

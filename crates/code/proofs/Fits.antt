@@ -1,6 +1,7 @@
 -- The listing of every sheet of document 01's kind, a refused one too, takes at most 1,024 bytes.
 --
 --   listing_fits         so the buffer that `card` asks for holds it
+--   card_fits            and the length that `card` returns is that of a part of it
 --   accepted_fits        an accepted sheet's: by lines 20, 641, 139, four times 35, and 27
 use mathlib.Core.Path.{◌≡◌, refl, ap, subst}
 use mathlib.Core.Bool.{Bool, true, false}
@@ -8,12 +9,12 @@ use mathlib.Core.List.{List, [], ◌∷◌, ◌++◌, map, flat_map}
 use Prim.Native.Nat.{ℕ, zero, suc, ◌+◌, ◌-◌, ◌*◌, ◌≤◌, ◌<◌}
 use native.Mathlib.Nat.{suc-mul, div-le_self}
 use native.Mathlib.Omega.{arith}
-use lib.ListN.{length, length-append, length-map}
+use lib.ListN.{length, get_or, length-append, length-map}
 use Rattle.field.specs.Search.{up_to, keep}
 use Rattle.field.specs.Field.{order_of_two}
 use Rattle.field.proofs.Search.{keep_suc}
 use Rattle.binary.specs.Factor.{degree}
-use Rattle.document.specs.Answer.{first_of}
+use Rattle.document.specs.Answer.{first_of, settle_in}
 use Rattle.document.specs.Sheet.{Certificate, Stated, certificate_at}
 use Rattle.document.specs.Coset.{in_set, defining_set, dimension}
 use Rattle.document.specs.Generator.{generator_poly}
@@ -21,8 +22,8 @@ use Rattle.document.specs.Certificate.{distance, radius}
 use Rattle.document.specs.Judge.{dimension_of, working_of, working_certificate}
 use Rattle.document.specs.Card.{spaced, newline, code_word, zeros_word, generator_word, cert_word, terms_word, distance_word, radius_word, from_word}
 use Rattle.document.specs.Card.{refused_word, code_text, certificate_text, radius_text, code_line, zeros_line, generator_line, certificate_line, radius_line}
-use Rattle.document.specs.Card.{refused_line, accepted_lines, listing_for, listing_of}
-use Rattle.document.specs.Short.{short, stated, refusals_of, listing}
+use Rattle.document.specs.Card.{refused_line, accepted_lines, listing_for, listing_of, card_entry}
+use Rattle.document.specs.Short.{short, stated, refusals_of, listing, card_of}
 use Rattle.document.proofs.Sane.{poly_length}
 use Rattle.document.proofs.Stated.{odd_to}
 use Rattle.document.proofs.Acceptance.{judge_le, quiet_of, quiet_rules}
@@ -195,3 +196,12 @@ listing_fits sheet = go (first_of (refusals_of sheet)) refl
     go : (r : ℕ) → first_of (refusals_of sheet) ≡ r → length (listing_for r (stated sheet)) ≤ 1024
     go zero e = omega (arith, accepted_fits sheet e)
     go (suc r) e = omega (arith, refused_le (suc r) (omega (arith, judge_le short sheet, e)))
+
+settled_within : {B : Type 0} (x v m : ℕ) (w old : B) → v ≤ m → get_or (settle_in x (v ∷ []) w old).0.values 0 0 ≤ m
+unfolding settle_in
+settled_within zero v m w old h = h
+settled_within (suc r) v m w old h = omega arith
+
+pub card_fits : (sheet out : List ℕ) → get_or (card_of sheet out).0.values 0 0 ≤ 1024
+unfolding card_entry
+card_fits sheet out = settled_within _ (length (listing sheet)) 1024 _ _ (listing_fits sheet)

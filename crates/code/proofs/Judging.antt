@@ -9,13 +9,15 @@ use mathlib.Core.List.{List}
 use Prim.Native.Nat.{ℕ, ◌≤◌, ◌<◌}
 use native.Mathlib.Omega.{arith}
 use lib.ListN.{length, take}
+use lib.Seq.{length-take-le}
 use Rattle.field.specs.Field.{OddLength, order_of_two}
 use Rattle.document.specs.Answer.{Answer, refused}
 use Rattle.document.specs.Sheet.{Stated, Kind, stated_by, wrong_length, wrong_code_length, wrong_header}
 use Rattle.document.specs.Judge.{wrong_degree}
 use Rattle.document.proofs.Stated.{counted, odd_to, odd_length}
 use Rattle.document.proofs.Acceptance.{judge_by, judge_number}
-use Rattle.sheet.specs.Stage.{certificates_in, RepresentativesRead, CertificatesRead}
+use Rattle.sheet.specs.declared.types.Certificate.{Certificate as CodeCertificate}
+use Rattle.sheet.specs.Stage.{certificates_as, RepresentativesRead, CertificatesRead}
 use Rattle.sheet.proofs.Headed.{degree_1, degree_pass}
 use Rattle.judging.specs.Weigh.{stated_as, judge_stated, Judgeable}
 use Rattle.judging.proofs.Judging.{judge_1, judge_2, judge_3, judge_4, judge_pass}
@@ -23,27 +25,26 @@ use Rattle.code.specs.Stating.{HeaderPassed, StatedJudged, JudgedInto}
 use Rattle.code.proofs.Accepted.{Limits, part_is}
 
 -- ---- what was read
-stated_is : (x : Stated) {n : ℕ} {reps : List ℕ} (count : ℕ) (w : List ℕ) → n ≡ x.n → reps ≡ x.representatives
-    → certificates_in count w ≡ x.certificates → stated_as n reps count w ≡ x
-stated_is x count w a b c = λ i. record { n = a i; representatives = b i; certificates = c i }
+stated_is : (x : Stated) {n : ℕ} {reps : List ℕ} (w : List CodeCertificate) → n ≡ x.n → reps ≡ x.representatives
+    → certificates_as w ≡ x.certificates → stated_as n reps w ≡ x
+stated_is x w a b c = λ i. record { n = a i; representatives = b i; certificates = c i }
 
-pub judgeable : {kind : Kind} {sheet w : List ℕ} {n s count : ℕ} → Limits kind → HeaderPassed kind sheet n s
-    → CertificatesRead (stated_by kind sheet) w count → 24 ≤ length w → Judgeable kind.most_terms n s count w
-judgeable small r y long = record {
+pub judgeable : {kind : Kind} {sheet : List ℕ} {w : List CodeCertificate} {n s count : ℕ} → Limits kind → HeaderPassed kind sheet n s
+    → CertificatesRead (stated_by kind sheet) w count → Judgeable kind.most_terms n s (take count w)
+judgeable {w = w} {count = count} small r y = let l = length-take-le count w y.fits in record {
   length_stated = r.length_stated;
   s_is = r.s_is;
   most_le = omega (arith, small.terms);
-  one = y.one;
-  few = omega (arith, y.few);
-  long = omega (arith, y.few);
+  one = omega (arith, l, y.one);
+  few = omega (arith, l, y.few);
 }
 
-pub code_judged : {kind : Kind} {sheet w certificates : List ℕ} {n s m count : ℕ} {answer : Answer} → HeaderPassed kind sheet n s
+pub code_judged : {kind : Kind} {sheet w : List ℕ} {certificates : List CodeCertificate} {n s m count : ℕ} {answer : Answer} → HeaderPassed kind sheet n s
     → RepresentativesRead (stated_by kind sheet) w → m ≡ length (stated_by kind sheet).representatives
     → CertificatesRead (stated_by kind sheet) certificates count
-    → answer ≡ judge_stated kind.most_terms (stated_as n (take m w) count certificates) → StatedJudged kind sheet w answer
+    → answer ≡ judge_stated kind.most_terms (stated_as n (take m w) (take count certificates)) → StatedJudged kind sheet w answer
 code_judged {kind} {sheet} {certificates = certificates} {count = count} r p e y q = record {
-  is = q ∙ ap (judge_stated kind.most_terms) (stated_is (stated_by kind sheet) count certificates r.n_is (part_is p e) y.is);
+  is = q ∙ ap (judge_stated kind.most_terms) (stated_is (stated_by kind sheet) (take count certificates) r.n_is (part_is p e) y.is);
   read = p;
 }
 

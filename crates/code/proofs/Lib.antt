@@ -9,6 +9,8 @@ pub mod Judging
 pub mod Entries
 pub mod Parted
 pub mod Ready
+pub mod WholeOrShort
+pub mod Listed
 pub mod RoundTrip
 pub mod InTurn
 pub mod RuleThree

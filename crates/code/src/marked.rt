@@ -5,10 +5,9 @@ ghost use Rattle.document.specs.Answer.{marked_as};
 ghost use Rattle.document.specs.Marked.{shown_of};
 ghost use Rattle.document.specs.Short.{decode_marked_of};
 
-use crate::judged::judge_into;
+use crate::judged::accept;
 use decoder::marked::decode_marked_accepted;
-use document::types::{Judged, MarkedReply};
-use sheet::read::{read_certificate, representative_count};
+use document::types::{Refusal, Shown};
 
 // Both decoded trial words into the lent buffers; e, and which of them is the answer.
 pub fn decode_marked(
@@ -17,30 +16,19 @@ pub fn decode_marked(
     marks: &[u8],
     zeros: &mut [u8],
     ones: &mut [u8],
-) -> MarkedReply
+) -> Result<Shown, Refusal>
     ensures { (marked_as result, (zeros.new, ones.new)) ≡ decode_marked_of sheet.now word.now marks.now zeros.old ones.old }
 {
-    let mut representatives = [0u16; 32];
-    let judged = judge_into(sheet, &mut representatives);
-    match judged {
-        Judged::Refused(r) => MarkedReply::Refused(r),
-        Judged::Accepted(a) => {
-            let count = representative_count(sheet);
-            let working = read_certificate(sheet, a.working as usize);
-            decode_marked_accepted(
-                a.n as usize,
-                a.s as usize,
-                a.t as usize,
-                a.d as usize,
-                working,
-                &representatives[..count],
-                word,
-                marks,
-                zeros,
-                ones,
-            )
-        }
-    }
+    let mut room = [0u16; 32];
+    let accepted = accept(sheet, &mut room)?;
+    decode_marked_accepted(
+        &accepted.stated_code(),
+        accepted.numbers.d as usize,
+        word,
+        marks,
+        zeros,
+        ones,
+    )
 }
 
 // The first n/8 bytes, rounded up, of the zeros' buffer for trial 0 and of the ones' for any other number, or all of a shorter one. It is
@@ -48,18 +36,7 @@ pub fn decode_marked(
 pub fn shown<'a>(trial: usize, n: usize, zeros: &'a [u8], ones: &'a [u8]) -> &'a [u8]
     ensures { result.now ≡ shown_of trial n zeros.now ones.now }
 {
-    let size = n / 8 + (n % 8 + 7) / 8;
-    if trial == 0 {
-        if size < zeros.len() {
-            &zeros[..size]
-        } else {
-            zeros
-        }
-    } else {
-        if size < ones.len() {
-            &ones[..size]
-        } else {
-            ones
-        }
-    }
+    let is_first = trial == 0;
+    let buffer = if is_first { zeros } else { ones };
+    &buffer[..n.div_ceil(8).min(buffer.len())]
 }

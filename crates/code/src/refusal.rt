@@ -4,27 +4,9 @@ ghost use Rattle.document.specs.Answer.{number_of};
 
 use document::types::Refusal;
 
-// The number of a refusal: document 01's table, and document 02's.
+// The number of a refusal: document 01's table, and document 02's. A function and no From: docs/PROMISES.md names it.
 pub fn refusal_number(r: Refusal) -> usize
     ensures { result ≡ number_of r }
 {
-    match r {
-        Refusal::SheetLength => 1,
-        Refusal::CodeLength => 2,
-        Refusal::FieldDegree => 3,
-        Refusal::Header => 4,
-        Refusal::Representative => 5,
-        Refusal::NoMessage => 6,
-        Refusal::Range => 7,
-        Refusal::CommonFactor => 8,
-        Refusal::Period => 9,
-        Refusal::Term => 10,
-        Refusal::BufferLength => 11,
-        Refusal::SpareBit => 12,
-        Refusal::NoneNear => 13,
-        Refusal::NoCodeword => 14,
-        Refusal::NoneWithMarks => 15,
-        Refusal::Shortening => 16,
-        Refusal::InterleavingDepth => 17,
-    }
+    r as usize
 }

@@ -1,9 +1,10 @@
 -- Eight places at once, of messages and words in bytes.
 --
 --   turned_lt, turned_digit      a byte the other way round
---   turning, turning_fits        how the code turns it
+--   turning          how the code turns it
 --   shifted_lt       a byte shifted up
---   message_sum, message_last, word_sum, word_last      eight places as the code takes them out of two neighbouring bytes, or of the last
+--   turned_is, unturned_is      the places of a word's byte in order, and of a message's
+--   eight_sum, eight_last      eight places as the code takes them out of two neighbouring bytes, or of the last
 --   whole_is         without spare bits, all places of the bytes are those of the word or message
 use mathlib.Core.Path.{◌≡◌, refl, sym, ap, ap₂, ◌∙◌, subst}
 use mathlib.Core.Logic.{◌⊎◌, inl, inr}
@@ -26,8 +27,8 @@ use Rattle.cyclic.proofs.Places.{coefficient_zero}
 use Rattle.document.specs.Layout.{word_weight, message_weight, bytes_for, mask_of, spare}
 use Rattle.binary.proofs.Digits.{sum_at, sum_lt}
 use Rattle.binary.proofs.Window.{window}
-use Rattle.codeword.specs.Place.{turned, whole_mask}
-use Rattle.codeword.proofs.Places.{Weights, word_weights, message_weights, mask_coefficient, mask_above, spare_none, place_is, for_le}
+use Rattle.codeword.specs.Place.{lowest_first, turned, whole_mask}
+use Rattle.codeword.proofs.Places.{Weights, word_weights, message_weights, mask_coefficient, mask_above, spare_none, place_is, for_le, lowest_lt, lowest_digit, lowest_is, lowest_none}
 
 -- ---- a byte the other way round
 apart : (i j : ℕ) → i < 8 → j < 8 → 7 - i ≡ 7 - j → i ≡ j
@@ -61,65 +62,57 @@ turning b h =
     eqb-true (bit_and (copies b * 65793 / 2 ^ 16) 255) (turned b)
     (every_at (λ b. eqb (bit_and (copies b * 65793 / 2 ^ 16) 255) (turned b)) 256 turning_tried b h)
 
-fitting_tried : every (λ b. eqb (copies b / 1048576) 0) (up_to 256) ≡ true
-unfolding copies every up_to
-fitting_tried = refl
-
-pub turning_fits : (b : ℕ) → b < 256 → bit_or (bit_and (b * 2050) 139536) (bit_and (b * 32800) 558144) < 1048576
-unfolding copies
-turning_fits b h =
-    omega (arith, eqb-true (copies b / 1048576) 0 (every_at (λ b. eqb (copies b / 1048576) 0) 256 fitting_tried b h))
-
 -- ---- a byte shifted up
 pub shifted_lt : (b k : ℕ) → b < 256 → k ≤ 8 → b * 2 ^ k % 2 ^ 64 < 65536
 shifted_lt b k h l =
     let lt : b * 2 ^ k < 2 ^ 16 = lt_of_lt_of_le (shl_lt 8 k h) (pow_mono {i = 8 + k} {j = 16} (omega arith)) in
     omega arith
 
-turned_back : (b t : ℕ) → t < 8 → coefficient t (turned b) ≡ coefficient (7 - t) b
-turned_back b t h =
-    let e : t ≡ 7 - (7 - t) = omega arith in ap (λ (x : ℕ). coefficient x (turned b)) e ∙ turned_digit b (7 - t) (omega arith)
+-- ---- the places of a byte in order, by layout
+pub turned_is : (b : ℕ) → turned b ≡ lowest_first word_weight b
+turned_is b =
+    lowest_is word_weights b (turned_lt b)
+    (λ t h. let e : t ≡ 7 - (7 - t) = omega arith in ap (λ (x : ℕ). coefficient x (turned b)) e ∙ turned_digit b (7 - t) (omega arith))
 
-turned_none : turned 0 ≡ 0
-unfolding turned total
-turned_none = refl
+pub unturned_is : (b : ℕ) → b < 256 → b ≡ lowest_first message_weight b
+unturned_is b h = lowest_is message_weights b h (λ t k. refl)
 
--- ---- eight places, where f puts the places of a byte in order
-module _ {w : ℕ → ℕ} (W : Weights w) (f : ℕ → ℕ) (digit_is : (b t : ℕ) → t < 8 → coefficient t (f b) ≡ coefficient (W.shift t) b)
-    (none : f 0 ≡ 0) (small : (b : ℕ) → b < 256 → f b < 256) (l : List ℕ) where
-  held : (q t : ℕ) → t < 8 → coefficient (q * 8 + t) (whole_mask w l) ≡ coefficient t (f (get_or l q 0))
+-- ---- eight places
+module _ {w : ℕ → ℕ} (W : Weights w) (l : List ℕ) where
+  held : (q t : ℕ) → t < 8 → coefficient (q * 8 + t) (whole_mask w l) ≡ coefficient t (lowest_first w (get_or l q 0))
   held q t h = go (le_or_lt (length l) q)
     where
-      go : (length l ≤ q) ⊎ (q < length l) → coefficient (q * 8 + t) (whole_mask w l) ≡ coefficient t (f (get_or l q 0))
+      go : (length l ≤ q) ⊎ (q < length l) → coefficient (q * 8 + t) (whole_mask w l) ≡ coefficient t (lowest_first w (get_or l q 0))
       go (inl k) =
           mask_above w (length l * 8) l (q * 8 + t) (omega arith)
-          ∙ sym (ap (λ (x : ℕ). coefficient t (f x)) (get_or-eq_default l 0 k) ∙ ap (coefficient t) none ∙ coefficient_zero t)
+          ∙ sym (ap (λ (x : ℕ). coefficient t (lowest_first w x)) (get_or-eq_default l 0 k) ∙ ap (coefficient t) (lowest_none W) ∙ coefficient_zero t)
       go (inr k) =
           let a : (q * 8 + t) % 8 ≡ t = omega arith in
           let b : (q * 8 + t) / 8 ≡ q = omega arith in
           mask_coefficient w (length l * 8) l (q * 8 + t) (omega arith) ∙ place_is W l (q * 8 + t)
-          ∙ ap₂ (λ (x y : ℕ). coefficient (W.shift x) (get_or l y 0)) a b ∙ sym (digit_is (get_or l q 0) t h)
+          ∙ ap₂ (λ (x y : ℕ). coefficient (W.shift x) (get_or l y 0)) a b ∙ sym (lowest_digit W (get_or l q 0) t h)
 
-  module _ (bytes : (k : ℕ) → get_or l k 0 < 256) (i : ℕ) where
-    eight : whole_mask w l / 2 ^ i % 256 ≡ (f (get_or l (i / 8) 0) / 2 ^ (i % 8) + f (get_or l (i / 8 + 1) 0) * 2 ^ (8 - i % 8)) % 256
+  module _ (i : ℕ) where
+    eight : whole_mask w l / 2 ^ i % 256
+        ≡ (lowest_first w (get_or l (i / 8) 0) / 2 ^ (i % 8) + lowest_first w (get_or l (i / 8 + 1) 0) * 2 ^ (8 - i % 8)) % 256
     eight =
         let e : i ≡ i / 8 * 8 + i % 8 = omega arith in
         ap (λ (k : ℕ). whole_mask w l / 2 ^ k % 256) e
-        ∙ window 8 (λ q. f (get_or l q 0)) (λ q. small (get_or l q 0) (bytes q)) (whole_mask w l) held (omega arith) (i / 8) (i % 8) (omega arith)
+        ∙ window 8 (λ q. lowest_first w (get_or l q 0)) (λ q. lowest_lt W (get_or l q 0)) (whole_mask w l) held (omega arith) (i / 8) (i % 8) (omega arith)
 
-    sum : {x y : ℕ} → x ≡ f (get_or l (i / 8) 0) → y ≡ f (get_or l (i / 8 + 1) 0)
+    pub eight_sum : {x y : ℕ} → x ≡ lowest_first w (get_or l (i / 8) 0) → y ≡ lowest_first w (get_or l (i / 8 + 1) 0)
         → bit_and (x / 2 ^ (i % 8) + y * 2 ^ (8 - i % 8) % 2 ^ 64) 255 ≡ whole_mask w l / 2 ^ i % 256
-    sum {x} {y} ex ey =
+    eight_sum {x} {y} ex ey =
         and_mask (x / 2 ^ (i % 8) + y * 2 ^ (8 - i % 8) % 2 ^ 64) 8 ∙ same (x / 2 ^ (i % 8)) (y * 2 ^ (8 - i % 8))
         ∙ ap₂ (λ (u v : ℕ). (u / 2 ^ (i % 8) + v * 2 ^ (8 - i % 8)) % 256) ex ey ∙ sym eight
       where
         same : (x y : ℕ) → (x + y % 2 ^ 64) % 256 ≡ (x + y) % 256
         same x y = omega arith
 
-    last : {x : ℕ} → x ≡ f (get_or l (i / 8) 0) → i / 8 + 1 ≡ length l → x / 2 ^ (i % 8) ≡ whole_mask w l / 2 ^ i % 256
-    last {x} ex e =
-        let z : f (get_or l (i / 8 + 1) 0) ≡ 0 = ap f (get_or-eq_default l 0 (omega arith)) ∙ none in
-        let s : x < 256 = subst (λ (y : ℕ). y < 256) (sym ex) (small (get_or l (i / 8) 0) (bytes (i / 8))) in
+    pub eight_last : {x : ℕ} → x ≡ lowest_first w (get_or l (i / 8) 0) → i / 8 + 1 ≡ length l → x / 2 ^ (i % 8) ≡ whole_mask w l / 2 ^ i % 256
+    eight_last {x} ex e =
+        let z : lowest_first w (get_or l (i / 8 + 1) 0) ≡ 0 = ap (lowest_first w) (get_or-eq_default l 0 (omega arith)) ∙ lowest_none W in
+        let s : x < 256 = subst (λ (y : ℕ). y < 256) (sym ex) (lowest_lt W (get_or l (i / 8) 0)) in
         let q : x / 2 ^ (i % 8) ≤ x = shr_le x (i % 8) in
         sym
         (eight ∙ ap₂ (λ (u v : ℕ). (u / 2 ^ (i % 8) + v) % 256) (sym ex) (ap (λ (u : ℕ). u * 2 ^ (8 - i % 8)) z ∙ zero-mul (2 ^ (8 - i % 8)))
@@ -127,20 +120,6 @@ module _ {w : ℕ → ℕ} (W : Weights w) (f : ℕ → ℕ) (digit_is : (b t : 
       where
         none_more : (x : ℕ) → x < 256 → (x + 0) % 256 ≡ x
         none_more x h = omega arith
-
-module _ (l : List ℕ) (bytes : (k : ℕ) → get_or l k 0 < 256) (i : ℕ) where
-  pub message_sum : bit_and (get_or l (i / 8) 0 / 2 ^ (i % 8) + get_or l (i / 8 + 1) 0 * 2 ^ (8 - i % 8) % 2 ^ 64) 255 ≡ whole_mask message_weight l / 2 ^ i % 256
-  message_sum = sum message_weights (λ b. b) (λ b t h. refl) refl (λ b h. h) l bytes i refl refl
-
-  pub message_last : i / 8 + 1 ≡ length l → get_or l (i / 8) 0 / 2 ^ (i % 8) ≡ whole_mask message_weight l / 2 ^ i % 256
-  message_last e = last message_weights (λ b. b) (λ b t h. refl) refl (λ b h. h) l bytes i refl e
-
-  pub word_sum : {x y : ℕ} → x ≡ turned (get_or l (i / 8) 0) → y ≡ turned (get_or l (i / 8 + 1) 0)
-      → bit_and (x / 2 ^ (i % 8) + y * 2 ^ (8 - i % 8) % 2 ^ 64) 255 ≡ whole_mask word_weight l / 2 ^ i % 256
-  word_sum ex ey = sum word_weights turned turned_back turned_none (λ b h. turned_lt b) l bytes i ex ey
-
-  pub word_last : {x : ℕ} → x ≡ turned (get_or l (i / 8) 0) → i / 8 + 1 ≡ length l → x / 2 ^ (i % 8) ≡ whole_mask word_weight l / 2 ^ i % 256
-  word_last ex e = last word_weights turned turned_back turned_none (λ b h. turned_lt b) l bytes i ex e
 
 -- ---- without spare bits
 pub whole_is : (w : ℕ → ℕ) (n : ℕ) (l : List ℕ) → length l ≡ bytes_for n → spare w n l ≡ false → whole_mask w l ≡ mask_of w n l

@@ -1,8 +1,8 @@
 -- Words taken out of a block.
 --
 --   bit_past, bit_lt_two   past its last byte a block has 0; a bit is 0 or 1
---   Gathering, gathering_start, gathering_more, gathered_few, gathering_end      eight bits that are m apart, one after the other
---   Deinterleaving, deinterleaving_start, deinterleaving_more, deinterleaving_end, few_bits      a word, eight places at a time
+--   Gathering, gathering_start, gathering_more, gathering_end      eight bits that are m apart, one after the other
+--   Deinterleaving, deinterleaving_start, deinterleaving_more, deinterleaving_end      a word, eight places at a time
 --   block_word_lt, block_word_at      word i of a block as a mask: it has n places, and place j is bit j·m + i
 --   block_end              a block without spare bits has 0 from its last place on
 --   word_deinterleaved             a word that was taken is the block's, in word layout
@@ -15,7 +15,7 @@ use native.Mathlib.Nat.{mul-le-mul_right, add-mul}
 use native.Mathlib.Decide.{ℕ_discrete}
 use native.Mathlib.Omega.{arith}
 use lib.ListN.{length, get_or, set, get_or-eq_default}
-use lib.Pow.{pow-add, pow_mono, shr-shr}
+use lib.Pow.{pow-add, shr-shr}
 use lib.Seq.{get_or-set_same, get_or-set_other}
 use Rattle.algebra.proofs.Poly.{le_or_lt}
 use Rattle.field.specs.Mask.{coefficient}
@@ -66,9 +66,6 @@ gathering_more {block} {p} {m} {k} {x} {b} e g =
       ];
     }
 
-pub gathered_few : {block : List ℕ} {p m k x : ℕ} → k ≤ 8 → Gathering block p m k x → x < 256
-gathered_few {block} {p} {m} {k} {x} h g = let w : 2 ^ k ≤ 2 ^ 8 = pow_mono {i = k} {j = 8} h in let s = g.small in omega arith
-
 pub gathering_end : {block : List ℕ} {p m k x : ℕ} → k ≡ 8 → Gathering block p m k x → EightApart block p m x
 gathering_end {block} {p} {m} {k} {x} e g =
     let f : Gathering block p m 8 x = subst (λ (y : ℕ). Gathering block p m y x) e g in
@@ -80,10 +77,6 @@ pub record Deinterleaving (m i : ℕ) (block : List ℕ) (j : ℕ) (word : List 
 
 pub deinterleaving_start : {m i : ℕ} {block word : List ℕ} → Deinterleaving m i block 0 word
 deinterleaving_start = record { at = λ q h. absurd (omega arith) }
-
--- where the bits of byte j start
-pub few_bits : (j m : ℕ) → j ≤ 127 → 8 * j * m ≤ 1016 * m
-few_bits j m h = mul-le-mul_right m (omega arith)
 
 -- place q of byte j is bit q mod 8 of those from 8·j·m + i on
 bit_of : (m i j q : ℕ) → q / 8 ≡ j → 8 * j * m + i + q % 8 * m ≡ q * m + i

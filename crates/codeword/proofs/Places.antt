@@ -5,6 +5,7 @@
 --   place_lt, place_is     a place is 0 or 1: the digit of its byte
 --   read, put              what the code's shifts and masks do
 --   mask_lt, mask_coefficient, mask_above      the mask of the first n places
+--   lowest_lt, lowest_digit, lowest_is, lowest_none      the places of a byte in order
 --   bytes_length, bytes_place      the bytes of a mask
 --   mask_of_bytes, bytes_of_mask   masks below 2^n, and bytes with no spare bit, are the same thing
 --   places_ext             lists of bytes with the same places are equal
@@ -12,18 +13,18 @@
 --   spare_none, spare_clear      no spare bit: all places from n on are 0
 --   places_length, places_at, places_hold   all places of a word's bytes, and the mask that they are
 --   four_are               four places of a word by the shifts of half a byte
-use mathlib.Core.Path.{◌≡◌, refl, sym, ap, ap₂, ◌∙◌, subst}
+use mathlib.Core.Path.{◌≡◌, sym, ap, ap₂, ◌∙◌, subst}
 use mathlib.Core.Logic.{◌≢◌, ◌⊎◌, inl, inr}
 use mathlib.Core.Bool.{Bool, false}
 use mathlib.Core.List.{List}
-use Prim.Native.Nat.{ℕ, ◌+◌, ◌-◌, ◌*◌, ◌/◌, ◌%◌, ◌^◌, ◌≤◌, ◌<◌}
-use native.Mathlib.Nat.{one-mul}
-use native.Mathlib.Decide.{ℕ_discrete}
+use Prim.Native.Nat.{ℕ, suc, ◌+◌, ◌-◌, ◌*◌, ◌/◌, ◌%◌, ◌^◌, ◌≤◌, ◌<◌}
+use native.Mathlib.Nat.{one-mul, pow-succ'}
+use native.Mathlib.Decide.{ℕ_discrete, dec_lt}
 use native.Mathlib.Omega.{arith}
 use lib.Dec.{eqb}
 use lib.Bits.{bit_or, bit_and, and_mask}
 use lib.ListN.{length, get_or, set, length-set, length-map, get_or-eq_default}
-use lib.Pow.{shl_exact, shr-shr}
+use lib.Pow.{shl_exact, shr-shr, pow_pos, pow_mono}
 use lib.Seq.{get_or-set_same, get_or-set_other, ext_get_or}
 use borrow.Author.Tests.{eqb-false, ne_eqb}
 use Rattle.algebra.proofs.Poly.{le_or_lt}
@@ -31,55 +32,14 @@ use Rattle.field.specs.Search.{up_to, total}
 use Rattle.field.specs.Mask.{coefficient}
 use Rattle.field.proofs.Search.{some_none, some_false, length_up_to, total_ext}
 use Rattle.field.proofs.Xor.{digit_lt}
-use Rattle.cyclic.proofs.Places.{coefficient_above, same_places}
-use Rattle.document.specs.Layout.{word_weight, message_weight, bytes_for, place, mask_of, byte_of, bytes_of, spare}
+use Rattle.cyclic.proofs.Places.{coefficient_zero, coefficient_above, same_places}
+use Rattle.document.specs.Layout.{word_weight, bytes_for, place, mask_of, byte_of, bytes_of, spare}
 use Rattle.document.proofs.Stated.{tabulated_at, tabulated_length}
 use Rattle.binary.specs.Bits.{Holds}
 use Rattle.binary.specs.Lanes.{in_lanes}
-use Rattle.codeword.specs.Place.{Put, places_of, four_places}
+use Rattle.codeword.specs.Place.{Put, lowest_first, places_of, four_places}
+pub use Rattle.codeword.specs.Place.{Weights, word_weights, message_weights}
 use Rattle.binary.proofs.Digits.{put_same, put_other, sum_at, sum_lt}
-
--- place i is digit `shift (i mod 8)` of its byte, and digit e that of the place `back e` in the byte
-pub record Weights (w : ℕ → ℕ) : Type 0 where
-  pub shift : ℕ → ℕ
-  pub back : ℕ → ℕ
-  pub is : (i : ℕ) → w i ≡ 2 ^ shift (i % 8)
-  pub shift_lt : (r : ℕ) → r < 8 → shift r < 8
-  pub back_lt : (e : ℕ) → e < 8 → back e < 8
-  pub shift_back : (e : ℕ) → e < 8 → shift (back e) ≡ e
-  pub back_shift : (r : ℕ) → r < 8 → back (shift r) ≡ r
-
-pub word_is : (i : ℕ) → word_weight i ≡ 2 ^ (7 - i % 8)
-unfolding word_weight
-word_is i = refl
-
-pub message_is : (i : ℕ) → message_weight i ≡ 2 ^ (i % 8)
-unfolding message_weight
-message_is i = refl
-
--- the highest digit first
-abbrev pub word_weights : Weights word_weight
-word_weights = record {
-  shift = λ r. 7 - r;
-  back = λ e. 7 - e;
-  is = word_is;
-  shift_lt = λ r h. omega arith;
-  back_lt = λ e h. omega arith;
-  shift_back = λ e h. omega arith;
-  back_shift = λ r h. omega arith;
-}
-
--- the lowest digit first
-abbrev pub message_weights : Weights message_weight
-message_weights = record {
-  shift = λ r. r;
-  back = λ e. e;
-  is = message_is;
-  shift_lt = λ r h. h;
-  back_lt = λ e h. h;
-  shift_back = λ e h. refl;
-  back_shift = λ r h. refl;
-}
 
 pub place_lt : (w : ℕ → ℕ) (l : List ℕ) (i : ℕ) → place w l i < 2
 unfolding place
@@ -134,6 +94,15 @@ unfolding bytes_of
 bytes_at w n mask k h =
     tabulated_at (byte_of w mask) (bytes_for n) k 0 h
 
+same_power : (p q : ℕ) → 2 ^ p ≡ 2 ^ q → p ≡ q
+same_power p q e = elim (dec_lt p q) [
+  | yes l ↦ absurd (omega (arith, pow_pos p, pow-succ' 2 p, pow_mono {i = suc p} {j = q} l))
+  | no l ↦ elim (dec_lt q p) [
+    | yes k ↦ absurd (omega (arith, pow_pos q, pow-succ' 2 q, pow_mono {i = suc q} {j = p} k))
+    | no k ↦ omega arith
+  ]
+]
+
 module _ {w : ℕ → ℕ} (W : Weights w) where
   apart : (i j : ℕ) → i < 8 → j < 8 → W.shift i ≡ W.shift j → i ≡ j
   apart i j hi hj e = sym (W.back_shift i hi) ∙ ap W.back e ∙ W.back_shift j hj
@@ -143,8 +112,12 @@ module _ {w : ℕ → ℕ} (W : Weights w) where
   place_is l i = ap (λ (x : ℕ). get_or l (i / 8) 0 / x % 2) (W.is i)
 
   -- ---- a place read and set, as the code does it
-  pub read : (l : List ℕ) (i : ℕ) → bit_and (get_or l (i / 8) 0 / 2 ^ W.shift (i % 8)) 1 ≡ place w l i
-  read l i = and_mask (get_or l (i / 8) 0 / 2 ^ W.shift (i % 8)) 1 ∙ sym (place_is l i)
+  shift_is : (i r : ℕ) → w i ≡ 2 ^ r → W.shift (i % 8) ≡ r
+  shift_is i r e = same_power (W.shift (i % 8)) r (sym (W.is i) ∙ e)
+
+  pub read : (l : List ℕ) (i r : ℕ) → w i ≡ 2 ^ r → bit_and (get_or l (i / 8) 0 / 2 ^ r) 1 ≡ place w l i
+  read l i r e =
+      and_mask (get_or l (i / 8) 0 / 2 ^ r) 1 ∙ ap (λ (k : ℕ). coefficient k (get_or l (i / 8) 0)) (sym (shift_is i r e)) ∙ sym (place_is l i)
 
   shifted : (x p : ℕ) → x < 2 → p < 8 → x * 2 ^ p % 256 ≡ x * 2 ^ p
   shifted x p hx hp = shl_exact 1 p 8 hx (omega arith)
@@ -187,12 +160,16 @@ module _ {w : ℕ → ℕ} (W : Weights w) where
       outside = λ k n. get_or-set_other l (i / 8) k v 0 n;
     }
 
-    pub put : Put w i x l (set l (i / 8) (bit_or (bit_and b (255 - 1 * 2 ^ p % 256)) (x * 2 ^ p % 256)))
-    put =
+    put_shifted : Put w i x l (set l (i / 8) (bit_or (bit_and b (255 - 1 * 2 ^ p % 256)) (x * 2 ^ p % 256)))
+    put_shifted =
         let one : 1 * 2 ^ p % 256 ≡ 2 ^ p = shifted 1 p (omega arith) p_lt ∙ one-mul (2 ^ p) in
         subst (λ (y : ℕ). Put w i x l (set l (i / 8) y))
         (ap₂ (λ (y z : ℕ). bit_or (bit_and b (255 - y)) z) (sym one) (sym (shifted x p hx p_lt)))
         set_put
+
+    pub put : (r : ℕ) → w i ≡ 2 ^ r → Put w i x l (set l (i / 8) (bit_or (bit_and b (255 - 1 * 2 ^ r % 256)) (x * 2 ^ r % 256)))
+    put r e =
+        subst (λ (k : ℕ). Put w i x l (set l (i / 8) (bit_or (bit_and b (255 - 1 * 2 ^ k % 256)) (x * 2 ^ k % 256)))) (shift_is i r e) put_shifted
 
   -- ---- a byte by its digits
   abbrev digit_of : ℕ → ℕ → ℕ → ℕ
@@ -227,6 +204,30 @@ module _ {w : ℕ → ℕ} (W : Weights w) where
   mask_of_bytes n mask h =
       same_places (mask_lt w n (bytes_of w n mask)) h
       (λ i l. mask_coefficient w n (bytes_of w n mask) i l ∙ bytes_place n mask i (omega (arith, for_le n)))
+
+  -- ---- the places of a byte in order
+  ordered : ℕ → ℕ → ℕ
+  ordered b i = b / w i % 2
+
+  ordered_lt : (b i : ℕ) → ordered b i < 2
+  unfolding ordered
+  ordered_lt b i = digit_lt (b / w i)
+
+  pub lowest_lt : (b : ℕ) → lowest_first w b < 256
+  unfolding lowest_first ordered
+  lowest_lt b = sum_lt (λ i. i) (ordered b) (ordered_lt b) 8 8 (λ i j hi hj e. e) (λ i h. h)
+
+  pub lowest_digit : (b t : ℕ) → t < 8 → coefficient t (lowest_first w b) ≡ coefficient (W.shift t) b
+  unfolding lowest_first ordered
+  lowest_digit b t h =
+      let e : t % 8 ≡ t = omega arith in
+      sum_at (λ i. i) (ordered b) (ordered_lt b) 8 (λ i j hi hj q. q) t h ∙ ap (λ (x : ℕ). b / x % 2) (W.is t ∙ ap (λ (r : ℕ). 2 ^ W.shift r) e)
+
+  pub lowest_is : (b : ℕ) {x : ℕ} → x < 256 → ((t : ℕ) → t < 8 → coefficient t x ≡ coefficient (W.shift t) b) → x ≡ lowest_first w b
+  lowest_is b {x} small f = same_places {n = 8} small (lowest_lt b) (λ t h. f t h ∙ sym (lowest_digit b t h))
+
+  pub lowest_none : lowest_first w 0 ≡ 0
+  lowest_none = sym (lowest_is 0 (omega arith) (λ t h. coefficient_zero t ∙ sym (coefficient_zero (W.shift t))))
 
   -- ---- bytes by their places
   same_byte : (a b : ℕ) → a < 256 → b < 256

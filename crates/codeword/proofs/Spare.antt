@@ -5,9 +5,8 @@
 --   word_clear_iff         a word's are the low digits
 --   message_clear_iff      a message's are the high ones
 --   some_byte, places_fit, spare_le    there is a last byte, and some places are in it
---   word_tested, message_tested      the code's tests
-use mathlib.Core.Path.{◌≡◌, refl, sym, ap, ap₂, ◌∙◌}
-use mathlib.Core.Logic.Iff
+--   spare_tested      the code's test
+use mathlib.Core.Path.{◌≡◌, refl, sym, ap, ap₂, ◌∙◌, subst}
 use mathlib.Core.Logic.{◌↔◌}
 use mathlib.Core.Bool.{Bool, true, false, not}
 use mathlib.Core.List.{List}
@@ -16,16 +15,16 @@ use native.Mathlib.Nat.{mod-lt, mul-mod_left, div-eq_of_lt, add-zero, zero-mul, 
 use native.Mathlib.Decide.{dec_lt}
 use native.Mathlib.Omega.{arith}
 use lib.Dec.{eqb}
-use lib.Bits.{bit_and, and_mask}
 use lib.ListN.{length, get_or}
-use lib.Pow.{pow_pos, shl-shr, shr-shr, shl_exact, mod-pow-add}
+use lib.Pow.{pow_pos, shl-shr, shr-shr, mod-pow-add}
 use borrow.Author.Tests.{eq-eqb, ne_eqb}
 use Rattle.field.specs.Mask.{coefficient}
 use Rattle.field.proofs.Search.{true_ne_false}
 use Rattle.cyclic.proofs.Places.{coefficient_zero, coefficient_above, same_places}
 use Rattle.binary.proofs.Digits.{below_pow, digit_low}
 use Rattle.document.specs.Layout.{word_weight, message_weight, bytes_for, place, spare}
-use Rattle.codeword.proofs.Places.{Weights, word_weights, message_weights, place_is, spare_none, spare_clear}
+use Rattle.codeword.specs.Place.{lowest_first}
+use Rattle.codeword.proofs.Places.{Weights, word_weights, message_weights, place_is, spare_none, spare_clear, lowest_lt, lowest_digit}
 
 abbrev pub last_byte : List ℕ → ℕ
 last_byte l = get_or l (length l - 1) 0
@@ -109,14 +108,23 @@ module _ (n : ℕ) (l : List ℕ) (long : length l ≡ bytes_for n) (some : 1 �
   tested true x h = ap not (ne_eqb x 0 (λ e. true_ne_false refl (h.1 e)))
   tested false x h = ap not (eq-eqb x 0 (h.0 refl))
 
-  pub word_tested : last_byte l < 256 → not (eqb (bit_and (last_byte l * 2 ^ (8 - spare_bits n l) % 2 ^ 64) 255) 0) ≡ spare word_weight n l
-  word_tested small =
-      let p : ℕ = 8 - spare_bits n l in
-      let m = moved (last_byte l) (spare_bits n l) p in
-      let e : spare_bits n l + p ≡ 8 = omega (arith, spare_le) in
-      ap (λ (x : ℕ). not (eqb (bit_and x 255) 0)) (shl_exact 8 p 64 small (omega arith))
-      ∙ ap (λ (x : ℕ). not (eqb x 0)) (and_mask (last_byte l * 2 ^ p) 8 ∙ ap (λ (k : ℕ). last_byte l * 2 ^ p % 2 ^ k) (sym e))
-      ∙ tested (spare word_weight n l) (last_byte l * 2 ^ p % 2 ^ (spare_bits n l + p)) (Iff.trans word_clear_iff m)
-
-  pub message_tested : last_byte l < 256 → not (eqb (last_byte l / 2 ^ (8 - spare_bits n l)) 0) ≡ spare message_weight n l
-  message_tested small = tested (spare message_weight n l) (last_byte l / 2 ^ (8 - spare_bits n l)) (message_clear_iff small)
+  pub spare_tested : {w : ℕ → ℕ} (W : Weights w) {x m : ℕ} → x ≡ lowest_first w (last_byte l) → m ≡ n - 8 * (length l - 1)
+      → not (eqb (x / 2 ^ m) 0) ≡ spare w n l
+  unfolding bytes_for
+  spare_tested {w} W {x} {m} e em =
+      let small : x < 256 = subst (λ (y : ℕ). y < 256) (sym e) (lowest_lt W (last_byte l)) in
+      let is : m ≡ 8 - spare_bits n l = omega (arith, long, em) in
+      let digit : (t : ℕ) → t < 8 → coefficient t x ≡ coefficient (W.shift t) (last_byte l) =
+      λ t h. ap (coefficient t) e ∙ lowest_digit W (last_byte l) t h in
+      tested (spare w n l) (x / 2 ^ m) (
+        λ h. div-eq_of_lt
+            (below_pow m x
+            (λ i a. elim (dec_lt i 8) [
+              | yes b ↦ digit i b ∙ (clear_iff W).0 h i (omega (arith, is)) b
+              | no b ↦ coefficient_above {n = 8} small i (omega arith)
+            ])),
+        λ h. (clear_iff W).1
+            (λ r a b. let q : r ≡ m + (r - m) = omega (arith, is) in
+            sym (digit r b) ∙ ap (λ (y : ℕ). x / 2 ^ y % 2) q ∙ ap (λ (y : ℕ). y % 2) (sym (shr-shr x m (r - m)))
+            ∙ ap (coefficient (r - m)) h ∙ coefficient_zero (r - m)),
+      )

@@ -3,27 +3,28 @@
 --   lengths_of, split_long      lengths
 --   for_most             bytes have fewer than eight spare places
 --   feedback_made        the generator times x^(places - m), without what came up past the last number
---   fresh                arrays as the entries make them
+--   fresh, tables_room   arrays as they are made
 --   tested               a word's remainder tells whether it is a codeword
 --   message_places, remainder_places, joint_places      eight places of a message above a remainder
 --   Placing, placing_start, placing_more, placing_end      all places, eight at a time
 --   encoded_bytes        with the remainder of the message, the bytes of its codeword
---   bytes_read_start, bytes_read_more, bytes_read_end      a message's whole bytes
---   Reading, reading_start, reading_more, reading_end      and the places of the last one
+--   ReadingBytes, bytes_read_start, bytes_read_more, bytes_read_end      a message's whole bytes
+--   part_long, joined_long, Reading, reading_start, reading_more, reading_end      and the places of the last one
 use mathlib.Core.Path.{◌≡◌, refl, sym, ap, ap₂, ◌∙◌, subst}
 use mathlib.Core.Logic.{◌⊎◌, inl, inr}
 use mathlib.Core.Bool.{Bool, not}
-use mathlib.Core.List.{List}
+use mathlib.Core.List.{List, ◌++◌}
 use Prim.Native.Nat.{ℕ, ◌+◌, ◌-◌, ◌*◌, ◌/◌, ◌%◌, ◌^◌, ◌≤◌, ◌<◌}
 use native.Mathlib.Nat.{add_comm, add-mul, add-mul-div_right, div-one, mod-lt, mul_assoc, mul_comm, zero-mul, zero-div}
 use native.Mathlib.Decide.{ℕ_discrete}
 use native.Mathlib.Omega.{arith}
 use lib.Bits.{bit_and, and_mask}
 use lib.Dec.{eqb}
-use lib.ListN.{length, get_or, set, replicate, length-replicate, get_or-replicate, get_or-eq_default}
+use lib.ListN.{length, get_or, set, take, drop, length-set, length-append, length-drop, replicate, length-replicate, get_or-replicate, get_or-eq_default}
 use lib.Pow.{pow_pos, pow-add, pow_mono, shl-shr, shr-shr, high}
 use lib.Seq.{get_or-set_same, get_or-set_other}
 use borrow.Author.Tests.{eq-eqb, ne_eqb}
+use Rattle.std.proofs.lemmas.List.{length-take-le, get_or_append_left, get_or-append_right, get_or-drop}
 use Rattle.algebra.proofs.Poly.{le_or_lt}
 use Rattle.field.specs.Mask.{coefficient, clmul, remainder}
 use Rattle.field.specs.Field.{Degree}
@@ -39,7 +40,7 @@ use Rattle.binary.specs.Packed.{packed, places_in, TopHolds, Taken}
 use Rattle.binary.proofs.Digits.{digit_low}
 use Rattle.binary.proofs.Passing.{packed_none}
 use Rattle.binary.proofs.Feeding.{raised_low}
-use Rattle.generator.specs.Building.{Lengths, Multiplied}
+use Rattle.generator.specs.Building.{Lengths, RoomWhereSmall, Multiplied}
 use Rattle.generator.proofs.LowPlaces.{clmul_low}
 use Rattle.codeword.specs.Place.{Put, turned, whole_mask}
 use Rattle.codeword.specs.Codewords.{Coded, Usable, Fresh, FeedbackMade, RemainderTested, Encodable, EightOf, PlacesWritten, CodewordWritten, BytesRead, MessageRead}
@@ -216,43 +217,62 @@ encoded_bytes {n} {k} {s} {m} {sent} {bits} {reps} {message} {f} {r₀} {r} {out
     }
 
 -- ---- reading out
-pub bytes_read_start : {m : ℕ} {word out : List ℕ} → BytesRead m 0 word out out
-bytes_read_start = record { at = λ j h. absurd (omega arith); rest = λ i h. refl }
+-- the first j bytes of it
+pub record ReadingBytes (m : ℕ) (word : List ℕ) (j : ℕ) (out : List ℕ) : Type 0 where
+  pub at : (i : ℕ) → i < j * 8 → place message_weight out i ≡ place word_weight word (m + i)
 
-pub bytes_read_more : {m j i₀ v : ℕ} {word out out' : List ℕ} → BytesRead m j word out out' → i₀ ≡ m + 8 * j → i₀ + 8 ≤ length word * 8
-    → v ≡ whole_mask word_weight word / 2 ^ i₀ % 256 → j < length out' → BytesRead m (j + 1) word out (set out' j v)
-bytes_read_more {m} {j} {i₀} {v} {word} {out} {out'} t e room q h = record {
+pub bytes_read_start : {m : ℕ} {word out : List ℕ} → ReadingBytes m word 0 out
+bytes_read_start = record { at = λ j h. absurd (omega arith) }
+
+pub bytes_read_more : {m j i₀ v : ℕ} {word out : List ℕ} → ReadingBytes m word j out → i₀ ≡ m + 8 * j → i₀ + 8 ≤ length word * 8
+    → v ≡ whole_mask word_weight word / 2 ^ i₀ % 256 → j < length out → ReadingBytes m word (j + 1) (set out j v)
+bytes_read_more {m} {j} {i₀} {v} {word} {out} t e room q h = record {
   at = λ i l. elim (ℕ_discrete (i / 8) j) [
     | yes s ↦ (let d : i₀ + i % 8 ≡ m + i = omega arith in
-        place_is message_weights (set out' j v) i
-        ∙ ap (coefficient (i % 8)) (ap (λ (k : ℕ). get_or (set out' j v) k 0) s ∙ get_or-set_same out' j v 0 h ∙ q)
+        place_is message_weights (set out j v) i
+        ∙ ap (coefficient (i % 8)) (ap (λ (k : ℕ). get_or (set out j v) k 0) s ∙ get_or-set_same out j v 0 h ∙ q)
         ∙ digit_low (i % 8) 8 (whole_mask word_weight word / 2 ^ i₀) (omega arith)
         ∙ ap (λ (y : ℕ). y % 2) (shr-shr (whole_mask word_weight word) i₀ (i % 8))
         ∙ mask_coefficient word_weight (length word * 8) word (i₀ + i % 8) (omega arith) ∙ ap (place word_weight word) d)
-    | no s ↦ place_is message_weights (set out' j v) i ∙ ap (coefficient (i % 8)) (get_or-set_other out' j (i / 8) v 0 s)
-        ∙ sym (place_is message_weights out' i) ∙ t.at i (omega arith)
+    | no s ↦ place_is message_weights (set out j v) i ∙ ap (coefficient (i % 8)) (get_or-set_other out j (i / 8) v 0 s)
+        ∙ sym (place_is message_weights out i) ∙ t.at i (omega arith)
   ];
-  rest = λ i l. get_or-set_other out' j i v 0 (λ s. omega arith) ∙ t.rest i (omega arith);
 }
 
-pub bytes_read_end : {m j count : ℕ} {word out out' : List ℕ} → j ≡ count → BytesRead m j word out out' → BytesRead m count word out out'
-bytes_read_end {m} {j} {count} {word} {out} {out'} e t = subst (λ (k : ℕ). BytesRead m k word out out') e t
+pub bytes_read_end : {m j : ℕ} {word out : List ℕ} → length out ≤ j → ReadingBytes m word j out → BytesRead m word out
+bytes_read_end h t = record { at = λ i l. t.at i (omega arith) }
 
 pub record Reading (m k : ℕ) (word : List ℕ) (i : ℕ) (out : List ℕ) : Type 0 where
   pub at : (j : ℕ) → j < i → place message_weight out j ≡ place word_weight word (m + j)
   pub clear : (j : ℕ) → k ≤ j → j < bytes_for k * 8 → place message_weight out j ≡ 0
   pub bytes : (j : ℕ) → get_or out j 0 < 256
 
-pub reading_start : (out : List ℕ) {m k e : ℕ} {word out' : List ℕ} → 1 ≤ k → length out ≡ bytes_for k → e ≡ length out - 1
-    → BytesRead m (k / 8) word (set out e 0) out' → ((j : ℕ) → get_or out' j 0 < 256) → Reading m k word (k / 8 * 8) out'
+-- the whole bytes of a buffer, and with what stays of it
+pub part_long : (out : List ℕ) (k e : ℕ) → length out ≡ bytes_for k → length (take (k / 8) (set out e 0)) ≡ k / 8
 unfolding bytes_for
-reading_start out {m} {k} {e} {word} {out'} pos long ee t small = record {
-  at = t.at;
+part_long out k e long = length-take-le (k / 8) (set out e 0) (omega (arith, long, length-set out e 0))
+
+pub joined_long : (out part : List ℕ) (k e : ℕ) → length out ≡ bytes_for k → length part ≡ k / 8 → length (part ++ drop (k / 8) (set out e 0)) ≡ bytes_for k
+unfolding bytes_for
+joined_long out part k e long lp =
+    omega (arith, long, lp, length-set out e 0, length-drop (k / 8) (set out e 0), length-append part (drop (k / 8) (set out e 0)))
+
+pub reading_start : (out : List ℕ) {m k e : ℕ} {word part : List ℕ} → 1 ≤ k → length out ≡ bytes_for k → e ≡ length out - 1
+    → length part ≡ k / 8 → BytesRead m word part → ((j : ℕ) → get_or (part ++ drop (k / 8) (set out e 0)) j 0 < 256)
+    → Reading m k word (k / 8 * 8) (part ++ drop (k / 8) (set out e 0))
+unfolding bytes_for
+reading_start out {m} {k} {e} {word} {part} pos long ee lp t small = record {
+  at = λ j h.
+      place_is message_weights (part ++ drop (k / 8) (set out e 0)) j
+      ∙ ap (coefficient (j % 8)) (get_or_append_left part (drop (k / 8) (set out e 0)) 0 (j / 8) (omega (arith, lp)))
+      ∙ sym (place_is message_weights part j) ∙ t.at j (omega (arith, lp));
   clear = λ j a b.
-      let s : j / 8 ≡ e = omega arith in
-      place_is message_weights out' j
+      let s : k / 8 + (j / 8 - k / 8) ≡ e = omega arith in
+      place_is message_weights (part ++ drop (k / 8) (set out e 0)) j
       ∙ ap (coefficient (j % 8))
-      (t.rest (j / 8) (omega arith) ∙ ap (λ (x : ℕ). get_or (set out e 0) x 0) s ∙ get_or-set_same out e 0 0 (omega arith)) ∙ coefficient_zero (j % 8);
+      (get_or-append_right part (drop (k / 8) (set out e 0)) (k / 8) (j / 8) 0 lp (omega arith)
+      ∙ get_or-drop (k / 8) (set out e 0) (j / 8 - k / 8) 0
+      ∙ ap (λ (x : ℕ). get_or (set out e 0) x 0) s ∙ get_or-set_same out e 0 0 (omega arith)) ∙ coefficient_zero (j % 8);
   bytes = small;
 }
 
@@ -286,20 +306,22 @@ none_packed w = packed_none (replicate w 0) (λ i. go i (le_or_lt w i))
     go i (inl h) = get_or-eq_default (replicate w 0) 0 (omega (arith, length-replicate {A = ℕ} w 0))
     go i (inr h) = get_or-replicate {A = ℕ} w i 0 0 h
 
-pub fresh : {n s : ℕ} {reps : List ℕ} (w e g : ℕ) → Coded n s reps → 1 ≤ w → n ≤ 64 * w → 64 * w ≤ 65535 → 255 ≤ e → 256 ≤ g
-    → Fresh n s (replicate w 0) (replicate w 0) (replicate e 0) (replicate g 0)
-fresh {n} {s} w e g u some room fits he hg = record {
+pub fresh : {n : ℕ} (w : ℕ) → 1 ≤ n → n ≤ 64 * w → w ≤ 1023 → Fresh n (replicate w 0) (replicate w 0)
+fresh {n} w some room fits = record {
   none = none_packed w;
   empty = none_packed w;
   room = omega (arith, length-replicate {A = ℕ} w 0);
   some = omega (arith, length-replicate {A = ℕ} w 0);
   fits = omega (arith, length-replicate {A = ℕ} w 0);
   long = refl;
-  tables = record {
-    room = λ h. let small : 2 ^ s ≤ 2 ^ 8 = pow_mono {i = s} {j = 8} h in record {
-      degree = subst Degree (sym u.s_is) (degree u.length_stated);
-      e_long = omega (arith, length-replicate {A = ℕ} e 0);
-      g_long = omega (arith, length-replicate {A = ℕ} g 0);
-    };
+}
+
+pub tables_room : {n s : ℕ} {reps : List ℕ} (e g : ℕ) → Coded n s reps → 255 ≤ e → 256 ≤ g
+    → RoomWhereSmall s (replicate e 0) (replicate g 0)
+tables_room {n} {s} e g u he hg = record {
+  room = λ h. let small : 2 ^ s ≤ 2 ^ 8 = pow_mono {i = s} {j = 8} h in record {
+    degree = subst Degree (sym u.s_is) (degree u.length_stated);
+    e_long = omega (arith, length-replicate {A = ℕ} e 0);
+    g_long = omega (arith, length-replicate {A = ℕ} g 0);
   };
 }

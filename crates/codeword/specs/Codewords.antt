@@ -2,15 +2,15 @@
 --
 --   Coded n s reps          a code of length n with these representatives
 --   Usable n k s reps       one that has messages, with its k
---   Fresh n s f r e g       slices for a code of length n: f and r hold 0, and e and g have room for tables
+--   Fresh n f r             slices for a code of length n that hold 0
 --   FeedbackMade n reps f r      f holds the generator as a register's feedback, and r holds 0
 --   RemainderTested n sent reps word r      r says whether a word of so many places, with zeros above, is no codeword
 --   Encodable sent bits message out     lengths of a message without spare bits and of its codeword
 --   EightOf message m r i x       x is eight places from i on of the word that has the message above what the register r holds
 --   PlacesWritten message m r out      the bytes of that word
 --   CodewordWritten n sent bits reps message out      so many places of the codeword of a message of so many bits, with zeros above
---   Readable, MessageRead   the same for reading out; BytesRead m count word out out': its first whole bytes
-use Rattle.std.specs.Prelude.{◌≡◌, Bool, false, not, List, ℕ, ◌+◌, ◌-◌, ◌*◌, ◌/◌, ◌%◌, ◌^◌, ◌≤◌, ◌<◌, length, get_or}
+--   Readable, MessageRead   the same for reading out; BytesRead m word out: bytes of it, all of whose places are taken
+use Rattle.std.specs.Prelude.{◌≡◌, Bool, false, not, List, ℕ, ◌+◌, ◌-◌, ◌*◌, ◌/◌, ◌%◌, ◌^◌, ◌≤◌, ◌<◌, length}
 use Rattle.field.specs.Field.{order_of_two}
 use Rattle.field.specs.Mask.{coefficient}
 use Rattle.document.specs.Layout.{word_weight, message_weight, bytes_for, place, mask_of, bytes_of, spare}
@@ -18,7 +18,7 @@ use Rattle.document.specs.Coset.{dimension}
 use Rattle.document.specs.Generator.{generator, is_codeword, encode_mask, message_of}
 use Rattle.document.proofs.Theory.{Length}
 use Rattle.binary.specs.Packed.{packed, places_in, TopHolds, Feedback}
-use Rattle.generator.specs.Building.{Rising, RoomWhereSmall}
+use Rattle.generator.specs.Building.{Rising}
 use Rattle.codeword.specs.Place.{whole_mask}
 
 pub record Coded (n s : ℕ) (reps : List ℕ) : Type 0 where
@@ -32,14 +32,13 @@ pub record Usable (n k s : ℕ) (reps : List ℕ) : Type 0 where
   pub k_pos : 1 ≤ k
   pub k_le : k ≤ n
 
-pub record Fresh (n s : ℕ) (f r e g : List ℕ) : Type 0 where
+pub record Fresh (n : ℕ) (f r : List ℕ) : Type 0 where
   pub none : packed f ≡ 0
   pub empty : packed r ≡ 0
   pub room : n ≤ places_in f
   pub some : 1 ≤ length f
   pub fits : places_in f ≤ 65535
   pub long : length r ≡ length f
-  pub tables : RoomWhereSmall s e g
 
 pub record FeedbackMade (n : ℕ) (reps f r : List ℕ) : Type 0 where
   pub feedback : Feedback (n - dimension n reps) (generator n reps) f
@@ -70,9 +69,8 @@ pub record Readable (m k : ℕ) (word out : List ℕ) : Type 0 where
   pub k_pos : 1 ≤ k
   pub most : m + k ≤ 65535
 
-pub record BytesRead (m count : ℕ) (word out out' : List ℕ) : Type 0 where
-  pub at : (j : ℕ) → j < count * 8 → place message_weight out' j ≡ place word_weight word (m + j)
-  pub rest : (i : ℕ) → count ≤ i → get_or out' i 0 ≡ get_or out i 0
+pub record BytesRead (m : ℕ) (word out : List ℕ) : Type 0 where
+  pub at : (j : ℕ) → j < length out * 8 → place message_weight out j ≡ place word_weight word (m + j)
 
 pub record MessageRead (m k : ℕ) (word out : List ℕ) : Type 0 where
   pub is : out ≡ bytes_of message_weight k (message_of m (mask_of word_weight (m + k) word))

@@ -4,16 +4,17 @@ ghost use Rattle.std.specs.Prelude.{◌≡◌, ◌<◌, ◌≤◌, length};
 ghost use Rattle.document.specs.Layout.{word_weight, place};
 ghost use Rattle.codeword.specs.Interleaved.{EightApart, Deinterleaved};
 
-use crate::layout::word_place;
+use crate::layout::{Layout, Word};
 
 // Bit p of a block; past its last byte 0.
 fn block_bit(block: &[u8], p: usize) -> u8
     ensures { result ≡ place word_weight block.now p }
 {
     if p / 8 < block.len() {
-        return word_place(block, p);
+        Word::place(block, p)
+    } else {
+        0
     }
-    0
 }
 
 // Eight bits of a block, m apart, from bit p on; the first of them highest.
@@ -22,10 +23,8 @@ fn eight_bits_apart(block: &[u8], p: usize, m: usize) -> usize
     ensures { EightApart block.now p m result }
 {
     let mut eight: usize = 0;
-    let mut k: usize = 0;
-    while k < 8 {
-        eight = eight * 2 + block_bit(block, p + k * m) as usize;
-        k = k + 1;
+    for k in 0..8 {
+        eight = eight * 2 + usize::from(block_bit(block, p + k * m));
     }
     eight
 }
@@ -35,9 +34,7 @@ pub fn deinterleave_word(m: usize, i: usize, block: &[u8], word: &mut [u8])
     requires { (m ≤ 255) × (i ≤ 255) × (length word.old ≤ 128) }
     ensures { Deinterleaved m i block.now word.new }
 {
-    let mut j: usize = 0;
-    while j < word.len() {
-        word[j] = eight_bits_apart(block, 8 * j * m + i, m) as u8;
-        j = j + 1;
+    for (j, byte) in word.iter_mut().enumerate() {
+        *byte = eight_bits_apart(block, 8 * j * m + i, m) as u8;
     }
 }

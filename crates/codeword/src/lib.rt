@@ -1,6 +1,9 @@
 // Words and messages in bytes; the codeword of a message, the message of a codeword, and which words are codewords.
 #![tactic(auto)]
 
+// a code with messages
+pub mod code;
+
 // single places, four or eight at once, and spare bits
 pub mod layout;
 

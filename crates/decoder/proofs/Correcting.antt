@@ -2,8 +2,8 @@
 --
 --   setting, computable, extendable, walkable, comparable, solvable, search      what each part needs of what was there before
 --   stop_fits, stop_word, f_small, lower_enough      t u is at most L and fits a word, f is below 2^16, and the lower row has L places
---   chosen_lower, chosen_upper, chosen_solved      the slice that holds the locator
---   passed_many, passed_yes, passed_no      the exits of the last test
+--   solved_cut, choosable, chosen_solved, chosen_long      the locator, by the row that holds it
+--   for_tables       the tables' s is the code's
 --   corrected_clean      a codeword stays as it is
 --   exit_many, exit_tested, passed      what they say of the received word
 --   corrected        all of it
@@ -14,7 +14,8 @@ use mathlib.Core.List.{List, [], ◌∷◌}
 use Prim.Native.Nat.{ℕ, ◌-◌, ◌*◌, ◌/◌, ◌^◌, ◌≤◌, ◌<◌}
 use native.Mathlib.Decide.{dec_lt}
 use native.Mathlib.Omega.{arith}
-use lib.ListN.{length, get_or}
+use lib.ListN.{length, get_or, take}
+use lib.Seq.{get_or-take, length-take-le}
 use lib.Pow.{pow_pos}
 use mir.Syntax.{w64}
 use mir.Val.{Fits}
@@ -24,7 +25,6 @@ use Rattle.algebra.proofs.Alternant.{factor}
 use Rattle.algebra.proofs.Rows.{Done}
 use Rattle.field.specs.Mask.{◌⊕◌, coefficient}
 use Rattle.field.specs.Field.{order_of_two}
-use Rattle.field.proofs.Search.{true_ne_false}
 use Rattle.field.proofs.Xor.{digit_lt, ⊕-zero-r}
 use Rattle.field.proofs.Elements.{GF}
 use Rattle.binary.specs.Factor.{degree as degree_of}
@@ -50,16 +50,21 @@ use Rattle.certificate.proofs.Distance.{differences_self}
 use Rattle.binary.specs.Bits.{Holds}
 use Rattle.poly.specs.Slice.{Small, Short, series}
 use Rattle.poly.specs.Key.{Solvable, Solved, Outcome}
-use Rattle.field.proofs.Exponents.{powered_of}
+use Rattle.poly.specs.declared.types.Locator.{Locator}
+use Rattle.poly.specs.declared.types.Locator.TheVariants.{Lower, Upper}
+use Rattle.poly.proofs.Slices.{series_cut, small_cut, short_whole}
 use Rattle.syndrome.specs.Sums.{Listed}
-use Rattle.syndrome.proofs.Listing.{listed_none}
+use Rattle.syndrome.proofs.Listing.{listed_none, listed_cut}
 use Rattle.syndrome.specs.Value.{Evaluable, Computable, Computed, ValuesTested, Extendable, Comparable, Compared}
 use Rattle.syndrome.proofs.Setting.{rep_in}
 use Rattle.syndrome.specs.Series.{SyndromesOf}
 use Rattle.locator.specs.Locate.{Search}
 use Rattle.locator.specs.Locate as Places
-use Rattle.decoder.specs.Correct.{Given, Chosen, Verified, Correctable, Corrected}
+use Rattle.locator.specs.declared.terms.Term.{Term}
+use Rattle.locator.specs.declared.terms.Lanes.{Lanes}
+use Rattle.decoder.specs.Correct.{Given, Choosable, Chosen, Verified, Correctable, Corrected}
 use Rattle.decoder.proofs.Reception.{Known, syndromes_short, syndromes_small, received}
+use Rattle.decoder.proofs.Cleared.{degree_of as own_degree}
 use Rattle.decoder.proofs.Verdict.{far_many, far_other, close_here}
 
 -- ---- numbers
@@ -79,47 +84,50 @@ module _ {n s t : ℕ} {c : CodeCertificate} {reps : List ℕ} (p : Given n s t 
   pub stop_word : {u : ℕ} → u ≡ degree_of c.f → Fits w64 (t * u)
   stop_word e = omega (arith, stop_fits e, p.few)
 
--- ---- the slice that holds the locator
-differ : true ≡ false → ⊥
-differ e = true_ne_false refl e
+-- ---- the locator, by the row that holds it
+solved_cut : {s l τ n : ℕ} {S v : List ℕ} → Solved s l τ S v n → Solved s l τ S (take n v) (length (take n v))
+solved_cut {s} {l} {τ} {n} {S} {v} o =
+    let k : length (take n v) ≡ n = length-take-le n v o.long in
+    record {
+      small = small_cut o.long o.short o.small;
+      short = short_whole (take n v);
+      pos = omega (arith, k, o.pos);
+      long = omega arith;
+      key = λ d.
+          let y = o.key d in
+          record { done = y.done; is = y.is ∙ sym (series_cut o.long o.short d); size = omega (arith, k, y.size) };
+    }
 
-module _ {upper : Bool} {v x : List ℕ} where
-  pub chosen_lower : upper ≡ false → Chosen upper v x v
-  chosen_lower e = record { first = λ _. refl; last = λ q. absurd (differ (sym q ∙ e)) }
+module _ (s l τ : ℕ) (S v x : List ℕ) where
+  pub choosable : (r : Locator) → Outcome s l τ S r v x → Choosable r v x
+  choosable (Lower k) o = o.long
+  choosable (Upper k) o = o.long
 
-  pub chosen_upper : upper ≡ true → Chosen upper v x x
-  chosen_upper e = record { first = λ q. absurd (differ (sym e ∙ q)); last = λ _. refl }
+  chosen_solved : (lam : List ℕ) (r : Locator) → Outcome s l τ S r v x → Chosen r v x lam → Solved s l τ S lam (length lam)
+  chosen_solved lam (Lower k) o e = subst (λ (i : List ℕ). Solved s l τ S i (length i)) (sym e) (solved_cut o)
+  chosen_solved lam (Upper k) o e = subst (λ (i : List ℕ). Solved s l τ S i (length i)) (sym e) (solved_cut o)
 
-  module _ {lam : List ℕ} (h : Chosen upper v x lam) where
-    chosen_solved : {s l τ len : ℕ} {S : List ℕ} → Outcome s l τ S upper len v x → Solved s l τ S lam len
-    chosen_solved {s} {l} {τ} {len} {S} o = go upper refl
-      where
-        go : (y : Bool) → upper ≡ y → Solved s l τ S lam len
-        go false e = subst (λ (i : List ℕ). Solved s l τ S i len) (sym (h.first e)) (o.in_lower e)
-        go true e = subst (λ (i : List ℕ). Solved s l τ S i len) (sym (h.last e)) (o.in_upper e)
-
-    chosen_long : {k : ℕ} → length v ≤ k → length x ≤ k → length lam ≤ k
-    chosen_long {k} lv lx = go upper refl
-      where
-        go : (y : Bool) → upper ≡ y → length lam ≤ k
-        go false e = subst (λ (i : List ℕ). length i ≤ k) (sym (h.first e)) lv
-        go true e = subst (λ (i : List ℕ). length i ≤ k) (sym (h.last e)) lx
+  chosen_long : {m : ℕ} (lam : List ℕ) (r : Locator) → Outcome s l τ S r v x → Chosen r v x lam → length v ≤ m → length x ≤ m → length lam ≤ m
+  chosen_long lam (Lower k) o e hv hx = omega (arith, ap length e, length-take-le k v o.long, o.long)
+  chosen_long lam (Upper k) o e hv hx = omega (arith, ap length e, length-take-le k x o.long, o.long)
 
 -- ---- what the parts need
-module _ {n s t : ℕ} {c : CodeCertificate} {reps e g col val a b v x lg st lo hi list w : List ℕ}
-    (p : Correctable n s t c reps e g col val a b v x lg st lo hi list w) where
-  setting : Evaluable n s reps e
+pub for_tables : {n s s' t : ℕ} {c : CodeCertificate} {reps : List ℕ} → s' ≡ s → Given n s t c reps → Given n s' t c reps
+for_tables {n} {t = t} {c} {reps} e p = subst (λ (i : ℕ). Given n i t c reps) (sym e) p
+
+module _ {n s t : ℕ} {c : CodeCertificate} {reps col val a b v x : List ℕ} {terms : List Term} {lanes : List Lanes} {list w : List ℕ}
+    (given : Given n s t c reps) (p : Correctable n c col val a b v x terms lanes list w) where
+  setting : Evaluable n s reps
   setting = record {
-    odd = p.given.length_stated.odd;
-    s_is = p.given.s_is;
-    below = p.given.below;
-    powered = powered_of p.tables;
+    odd = given.length_stated.odd;
+    s_is = given.s_is;
+    below = given.below;
+    degree = own_degree given;
   }
 
-  pub computable : Computable n s w reps e g col val
+  pub computable : Computable n s w reps col val
   computable = record {
     setting = setting;
-    tables = p.tables;
     bits = λ i. subst (λ (y : ℕ). y < 2) (sym (p.held.holds.at i)) (digit_lt (p.held.word / 2 ^ i));
     w_whole = p.held.whole;
     w_most = p.held.most;
@@ -127,17 +135,16 @@ module _ {n s t : ℕ} {c : CodeCertificate} {reps e g col val a b v x lg st lo 
     val_long = p.space.values_long;
   }
 
-  pub extendable : {val' : List ℕ} → length val' ≡ length val → Computed n s w reps val' → Extendable n s reps e g val'
+  pub extendable : {val' : List ℕ} → length val' ≡ length val → Computed n s w reps val' → Extendable n s reps val'
   extendable l y = record {
     setting = setting;
-    tables = p.tables;
     long = omega (arith, l, p.space.values_long);
     word = p.held.word;
     held = y.at p.held.word p.held.holds p.held.small;
   }
 
   pub walkable : {val' : List ℕ} → length val' ≡ length val → Walkable n c val'
-  walkable e = walkable_of (range p.given) p.given.length_stated.odd.most p.given.few (omega (arith, e, p.space.values_long))
+  walkable e = walkable_of (range given) given.length_stated.odd.most given.few (omega (arith, e, p.space.values_long))
 
   pub f_small : c.f < 65536
   f_small = omega (arith, f_fits (walkable {val' = val} refl))
@@ -147,27 +154,31 @@ module _ {n s t : ℕ} {c : CodeCertificate} {reps e g col val a b v x lg st lo 
 
   -- where they are at most t, the places are listed
   pub comparable : {m : ℕ} {lam list' val' : List ℕ} → Places.Located n s c.z c.f t lam list' m → length list' ≡ length list
-      → length val' ≡ length val → m ≤ t → Comparable n s m list' reps val' e
-  comparable y ll lv h =
+      → length val' ≡ length val → m ≤ t → (m ≤ length list') × Comparable n s (take m list') reps val'
+  comparable {m} {list' = list'} y ll lv h =
       let q = (y.found.all h).1 in
-      record {
-        setting = setting;
-        long = omega (arith, q.le, ll, p.space.places_long);
-        few = q.le;
-        places = q.below;
-        val_long = omega (arith, lv, p.space.values_long);
-      }
+      let l : m ≤ length list' = omega (arith, q.le, ll, p.space.places_long) in
+      let k : length (take m list') ≡ m = length-take-le m list' l in (
+        l,
+        record {
+          setting = setting;
+          few = omega (arith, q.le, k);
+          places = λ i j.
+              let z : i < m = omega (arith, j, k) in
+              subst (λ (y : ℕ). y < n) (sym (get_or-take m list' i 0 z)) (q.below i z);
+          val_long = omega (arith, lv, p.space.values_long);
+        },
+      )
 
   pub solvable : {u : ℕ} {val' b' : List ℕ} → u ≡ degree_of c.f → Known n s w reps val' → SyndromesOf n (certificate_as c) val' b b'
-      → length b' ≡ length b → Solvable s c.terms (c.terms - t * u) a b' v x e g
+      → length b' ≡ length b → Solvable s c.terms (c.terms - t * u) a b' v x
   solvable {u} {val'} {b'} eu y z lb = record {
-    tables = p.tables;
-    b_small = subst (λ (d : ℕ). Small d b') (sym p.given.s_is)
-        (syndromes_small p.given.length_stated reps (certificate_as c) p.given.sound
-        (subst (λ (d : ℕ). Known n d w reps val') p.given.s_is y) z p.space.lower_zero p.held.holds p.held.small);
+    b_small = subst (λ (d : ℕ). Small d b') (sym given.s_is)
+        (syndromes_small given.length_stated reps (certificate_as c) given.sound
+        (subst (λ (d : ℕ). Known n d w reps val') given.s_is y) z p.space.lower_zero p.held.holds p.held.small);
     b_short =
-        syndromes_short p.given.length_stated reps (certificate_as c) p.given.sound
-        (subst (λ (d : ℕ). Known n d w reps val') p.given.s_is y) z p.space.lower_zero p.held.holds p.held.small;
+        syndromes_short given.length_stated reps (certificate_as c) given.sound
+        (subst (λ (d : ℕ). Known n d w reps val') given.s_is y) z p.space.lower_zero p.held.holds p.held.small;
     a_zero = p.space.upper_zero;
     v_zero = p.space.lower_cofactor_zero;
     w_zero = p.space.upper_cofactor_zero;
@@ -178,62 +189,27 @@ module _ {n s t : ℕ} {c : CodeCertificate} {reps e g col val a b v x lg st lo 
     w_long = p.space.upper_cofactor_long;
   }
 
-  pub search : {u τ len : ℕ} {S v' x' lam : List ℕ} {upper : Bool} → u ≡ degree_of c.f → Outcome s c.terms τ S upper len v' x'
-      → Chosen upper v' x' lam → length v' ≡ length v → length x' ≡ length x → Search n s c.z c.f u len lam e g lg st lo hi list
-  search {len = len} {lam = lam} eu o h lv lx =
-      let y = chosen_solved h o in
+  pub search : (τ : ℕ) (S v' x' lam : List ℕ) {u : ℕ} (r : Locator) → u ≡ degree_of c.f → Outcome s c.terms τ S r v' x'
+      → Chosen r v' x' lam → length v' ≡ length v → length x' ≡ length x → Search n s c.z c.f u lam terms lanes list
+  search τ S v' x' lam r eu o h lv lx =
+      let y = chosen_solved s c.terms τ S v' x' lam r o h in
       record {
-        tables = p.tables;
-        odd = p.given.length_stated.odd;
-        s_is = p.given.s_is;
-        z_lo = (range p.given).z_low;
-        z_hi = omega (arith, (range p.given).z_high, (range p.given).z_low);
-        modulus = modulus_of (range p.given) eu;
+        odd = given.length_stated.odd;
+        s_is = given.s_is;
+        z_lo = (range given).z_low;
+        z_hi = omega (arith, (range given).z_high, (range given).z_low);
+        modulus = modulus_of (range given) eu;
         locator = record {
           small = y.small;
-          short = y.short;
           pos = y.pos;
-          lam_long = y.long;
-          lg_long = long p.space.exponents_long;
-          st_long = long p.space.steps_long;
-          lo_long = long p.space.low_long;
-          hi_long = long p.space.high_long;
+          terms_long = long p.space.terms_long;
+          lanes_long = long p.space.lanes_long;
         };
         list_long = p.space.places_long;
       }
     where
-      long : {k : ℕ} → (length v ≤ k) × (length x ≤ k) → len ≤ k
-      long {k} q = omega (arith, (chosen_solved h o).long, chosen_long h {k = k} (omega (arith, lv, q.0)) (omega (arith, lx, q.1)))
-
--- ---- the last test
-module _ {n s t m : ℕ} {list reps val : List ℕ} where
-  pub passed_many : t < m → Verified n s t m list reps val (refused 13)
-  passed_many h = record {
-    many = λ _. refl;
-    right = false;
-    tested = λ l. absurd (omega arith);
-    yes = λ l. absurd (omega arith);
-    no = λ l e. refl;
-  }
-
-  module _ {right : Bool} (h : m ≤ t) (y : Compared n s m list reps val right) where
-    pub passed_yes : right ≡ true → Verified n s t m list reps val (returned (m ∷ []))
-    passed_yes e = record {
-      many = λ l. absurd (omega arith);
-      right = right;
-      tested = λ _. y;
-      yes = λ _ _. refl;
-      no = λ _ q. absurd (differ (sym e ∙ q));
-    }
-
-    pub passed_no : right ≡ false → Verified n s t m list reps val (refused 13)
-    passed_no e = record {
-      many = λ _. refl;
-      right = right;
-      tested = λ _. y;
-      yes = λ _ q. absurd (differ (sym q ∙ e));
-      no = λ _ _. refl;
-    }
+      long : {k : ℕ} → (length v ≤ k) × (length x ≤ k) → length lam ≤ k
+      long q = chosen_long s c.terms τ S v' x' lam r o h (omega (arith, lv, q.0)) (omega (arith, lx, q.1))
 
 -- ---- answers told apart
 value_is : {x y : ℕ} → returned (x ∷ []) ≡ returned (y ∷ []) → x ≡ y
@@ -301,11 +277,11 @@ module _ {n t : ℕ} {c : CodeCertificate} {reps : List ℕ} (p : Given n (order
         (subst (λ (y : ℕ). y < count n marked.mask) p.t_is (marked.found.many h)) x q);
   }
 
-  exit_tested : {y : Bool} → m ≤ t → Compared n (order_of_two n) m list reps val y → (y ≡ true → Corrected n t reps w list (returned (m ∷ []))) × (y ≡ false → Corrected n t reps w list (refused 13))
+  exit_tested : {y : Bool} → m ≤ t → (m ≤ length list) × Compared n (order_of_two n) (take m list) reps val y → (y ≡ true → Corrected n t reps w list (returned (m ∷ []))) × (y ≡ false → Corrected n t reps w list (refused 13))
   exit_tested {y} h k = (here, other)
     where
       says : {r : ℕ} → Holds r w → r < 2 ^ n → y ≡ is_codeword (n - dimension n reps) (generator n reps) (r ⊕ marked.mask)
-      says {r} hr lr = k.is r marked.mask (marked.found.all h).1 lr marked.small (λ i l. values.at r hr lr (get_or reps i 0) (rep_in p.length_stated reps p.below i l))
+      says {r} hr lr = k.1.is r marked.mask (listed_cut k.0 (marked.found.all h).1) lr marked.small (λ i l. values.at r hr lr (get_or reps i 0) (rep_in p.length_stated reps p.below i l))
 
       here : y ≡ true → Corrected n t reps w list (returned (m ∷ []))
       here e = record {
@@ -346,10 +322,10 @@ module _ {n t : ℕ} {c : CodeCertificate} {reps : List ℕ} (p : Given n (order
       go (no h) = tested (omega arith) k.right refl
 
 -- ---- for any name of the degree, and whichever slice the locator stands in
-module _ {n s t : ℕ} {c : CodeCertificate} {reps : List ℕ} (p : Given n s t c reps) {w list val b b' : List ℕ} {τ len m : ℕ} {answer : Answer} where
-  at_own : {lam : List ℕ} → Known n s w reps val → SyndromesOf n (certificate_as c) val b b' → Short 0 b → τ ≡ c.terms - t * degree_of c.f
+module _ {n s t : ℕ} {c : CodeCertificate} {reps : List ℕ} (p : Given n s t c reps) {w list val b b' : List ℕ} {τ m : ℕ} {answer : Answer} where
+  at_own : {len : ℕ} {lam : List ℕ} → Known n s w reps val → SyndromesOf n (certificate_as c) val b b' → Short 0 b → τ ≡ c.terms - t * degree_of c.f
       → Solved s c.terms τ b' lam len → Places.Located n s c.z c.f t lam list m → Verified n s t m list reps val answer → Corrected n t reps w list answer
-  at_own {lam} values written fresh τ_is solved marked k =
+  at_own {len} {lam} values written fresh τ_is solved marked k =
       own p.s_is p values solved marked k
     where
       own : {i : ℕ} → i ≡ order_of_two n → Given n i t c reps → Known n i w reps val → Solved i c.terms τ b' lam len
@@ -359,8 +335,8 @@ module _ {n s t : ℕ} {c : CodeCertificate} {reps : List ℕ} (p : Given n s t 
           (subst (λ (i : ℕ). Solved i c.terms τ b' lam len) e solved) (subst (λ (i : ℕ). Places.Located n i c.z c.f t lam list m) e marked)
           (subst (λ (i : ℕ). Verified n i t m list reps val answer) e k)
 
-  pub corrected : {v x lam : List ℕ} {u : ℕ} {upper : Bool} → Known n s w reps val → SyndromesOf n (certificate_as c) val b b' → Short 0 b
-      → u ≡ degree_of c.f → τ ≡ c.terms - t * u → Outcome s c.terms τ b' upper len v x → Chosen upper v x lam
+  pub corrected : (v x lam : List ℕ) {u : ℕ} (r : Locator) → Known n s w reps val → SyndromesOf n (certificate_as c) val b b' → Short 0 b
+      → u ≡ degree_of c.f → τ ≡ c.terms - t * u → Outcome s c.terms τ b' r v x → Chosen r v x lam
       → Places.Located n s c.z c.f t lam list m → Verified n s t m list reps val answer → Corrected n t reps w list answer
-  corrected values written fresh eu eτ o h marked k =
-      at_own values written fresh (eτ ∙ ap (λ (i : ℕ). c.terms - t * i) eu) (chosen_solved h o) marked k
+  corrected v x lam r values written fresh eu eτ o h marked k =
+      at_own values written fresh (eτ ∙ ap (λ (i : ℕ). c.terms - t * i) eu) (chosen_solved s c.terms τ b' v x lam r o h) marked k

@@ -5,19 +5,18 @@
 --   repairable        the listed places are of the word
 --   far, beyond, done      no codeword within t places; one that reaches into places that were not sent; the codeword and the number
 --                     of changed places
---   verdict_far, verdict_count      a verdict as an answer
---   decoded_far, decoded_near      a word decoded, by its verdict
+--   decoded_told      a word decoded, by its verdict
 --   received_held, received_far, received_listed, received_beyond, received_repairable, received_done      of one word of several, with
 --                     its verdict
-use mathlib.Core.Path.{◌≡◌, refl, sym, ap, ap₂, ◌∙◌, subst}
+use mathlib.Core.Path.{◌≡◌, sym, ap, ap₂, ◌∙◌, subst}
 use mathlib.Core.Logic.{◌≢◌}
 use mathlib.Core.Bool.{Bool, true, false}
+use Rattle.std.specs.Prelude.{Option, Some, None}
 use mathlib.Core.List.{List, [], ◌∷◌}
 use Prim.Native.Nat.{ℕ, zero, suc, ◌-◌, ◌^◌, ◌≤◌, ◌<◌}
 use native.Mathlib.Nat.{lt_of_lt_of_le}
 use native.Mathlib.Decide.{dec_lt}
 use native.Mathlib.Omega.{arith}
-use borrow.Author.Tests.{ne_eqb}
 use lib.ListN.{length, get_or}
 use lib.Pow.{pow_pos, pow-lt, pow_mono}
 use Rattle.field.specs.Mask.{◌⊕◌, coefficient}
@@ -209,14 +208,6 @@ module _ {n sent t : ℕ} {reps : List ℕ} (word out : List ℕ) where
       decode_spare h = record { is = λ x u m e. wrong_spare u m e word out a b h }
 
 -- ---- one word of several
-pub verdict_far : {v : ℕ} → v ≡ 65535 → refused 13 ≡ verdict_as v
-unfolding verdict_as
-verdict_far e = sym (ap verdict_as e)
-
-pub verdict_count : {v : ℕ} → v ≢ 65535 → returned (v ∷ []) ≡ verdict_as v
-unfolding verdict_as
-verdict_count {v} e = sym (ap (λ b. elim b as (λ _. Answer) [ true ↦ refused 13 | false ↦ returned (v ∷ []) ]) (ne_eqb v 65535 e))
-
 module _ {n sent : ℕ} {word out : List ℕ} (r : Receivable n sent word out) where
   pub received_held : Held n (places_of word)
   received_held = held r.at_most word r.word_long r.clear
@@ -225,36 +216,25 @@ module _ {n sent : ℕ} {word out : List ℕ} (r : Receivable n sent word out) w
     abbrev Is : List ℕ → Answer → Type 0
     Is out' answer = Decoded n sent t reps word out out' answer
 
-    pub received_far : answer ≡ refused 13 → Is out (verdict_as 65535)
-    received_far e =
-        subst (Is out) (verdict_far {v = 65535} refl)
-        record { is = λ x u m es. far u m es word out r.word_long r.out_long r.at_most r.clear y e }
+    pub received_far : answer ≡ refused 13 → Is out (verdict_as None)
+    received_far e = record { is = λ x u m es. far u m es word out r.word_long r.out_long r.at_most r.clear y e }
 
     module _ {m : ℕ} (e : answer ≡ returned (m ∷ [])) where
       pub received_listed : n ≤ length list → m ≤ length list
       received_listed l = omega (arith, (y.found (places_hold sent word r.word_long r.clear) (small r.at_most word r.word_long r.clear) e).5.le)
 
       module _ {z : Bool} (k : Reached list m sent z) where
-        pub received_beyond : z ≡ true → Is out (verdict_as 65535)
-        received_beyond q =
-            subst (Is out) (verdict_far {v = 65535} refl)
-            record { is = λ x u m es. beyond u m es word out r.word_long r.out_long r.at_most r.clear y e k q }
+        pub received_beyond : z ≡ true → Is out (verdict_as None)
+        received_beyond q = record { is = λ x u m es. beyond u m es word out r.word_long r.out_long r.at_most r.clear y e k q }
 
         pub received_repairable : z ≡ false → n ≤ length list → Repairable word list m out
         received_repairable q l = repairable r.at_most word r.word_long r.clear y e r.out_long l k q
 
-        pub received_done : z ≡ false → n ≤ 127 → {out' : List ℕ} → Repaired word list m out' → length out' ≡ length out
-            → ((i : ℕ) → get_or out' i 0 < 256) → Is out' (verdict_as m)
-        received_done q few {out'} p long bytes =
-            let f = (y.found (places_hold sent word r.word_long r.clear) (small r.at_most word r.word_long r.clear) e).5 in
-            let s : m ≢ 65535 = λ q. omega (arith, f.le) in
-            subst (Is out') (verdict_count s)
-            record { is = λ x u m es. done u m es word out r.word_long r.out_long r.at_most r.clear y e k q p long bytes }
+        pub received_done : z ≡ false → {out' : List ℕ} → Repaired word list m out' → length out' ≡ length out
+            → ((i : ℕ) → get_or out' i 0 < 256) → Is out' (verdict_as (Some m))
+        received_done q p long bytes = record { is = λ x u m es. done u m es word out r.word_long r.out_long r.at_most r.clear y e k q p long bytes }
 
 -- ---- a word's verdict
-module _ {n sent t : ℕ} {reps word out out' : List ℕ} {v : ℕ} (y : Decoded n sent t reps word out out' (verdict_as v)) where
-  pub decoded_far : v ≡ 65535 → Decoded n sent t reps word out out' (refused 13)
-  decoded_far e = subst (λ z. Decoded n sent t reps word out out' z) (sym (verdict_far e)) y
-
-  pub decoded_near : v ≢ 65535 → Decoded n sent t reps word out out' (returned (v ∷ []))
-  decoded_near e = subst (λ z. Decoded n sent t reps word out out' z) (sym (verdict_count e)) y
+pub decoded_told : {n sent t : ℕ} {reps word out out' : List ℕ} {v : Option ℕ} (told : Option ℕ) → v ≡ told
+    → Decoded n sent t reps word out out' (verdict_as v) → Decoded n sent t reps word out out' (verdict_as told)
+decoded_told {n} {sent} {t} {reps} {word} {out} {out'} told e y = subst (λ z. Decoded n sent t reps word out out' (verdict_as z)) e y

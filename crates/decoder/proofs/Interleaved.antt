@@ -1,24 +1,25 @@
 -- Blocks of words: taken out, decoded, and their verdicts.
 --
---   few_places, some_places, few_words      the numbers of bits and of bytes
---   TakenSome, taken_start, taken_more, taken_end      the first words are taken out of the block
---   WrittenSome, written_start, written_more, written_end      the first verdicts are written
+--   few_words      the number of bytes
+--   TakenSome, taken_more      the first words are taken out of the block
+--   WrittenSome      the first verdicts are written
 --   joined               parts of one size, one after the other
 --   words_are, block_lined      the words that were taken out are the block's, and a line of words
 --   verdict_is           a verdict, as a byte, of what decoding answers
 --   block_done           all words decoded: what the definition says
 --   block_wrong, block_out, block_verdicts_lem, block_spare      11 and 12
-use mathlib.Core.Path.{◌≡◌, refl, sym, ap, ap₂, ◌∙◌, subst}
-use mathlib.Core.Logic.{◌≢◌, ◌⊎◌, inl, inr}
-use mathlib.Core.Bool.{Bool, true, false, not}
+use mathlib.Core.Path.{◌≡◌, sym, ap, ap₂, ◌∙◌, subst}
+use mathlib.Core.Logic.{◌≢◌, inl, inr}
+use mathlib.Core.Bool.{true, not}
+use Rattle.std.specs.Prelude.{Option, Some, None, unwrap_or}
 use mathlib.Core.List.{List, [], ◌∷◌, ◌++◌, map, flat_map}
-use Prim.Native.Nat.{ℕ, zero, suc, ◌+◌, ◌*◌, ◌%◌, ◌≤◌, ◌<◌}
+use Prim.Native.Nat.{ℕ, zero, suc, ◌+◌, ◌*◌, ◌≤◌, ◌<◌}
 use native.Mathlib.Nat.{mul-le-mul_right, suc-mul, zero-mul}
 use native.Mathlib.Decide.{ℕ_discrete}
 use native.Mathlib.Omega.{arith}
 use lib.Dec.{eqb}
-use lib.ListN.{length, get_or, set, take, drop, length-set, get_or-eq_default}
-use lib.Seq.{get_or-set_same, get_or-set_other, get_or-take, get_or-drop, take-add, take_all, ext_get_or}
+use lib.ListN.{length, get_or, take, drop, get_or-eq_default}
+use lib.Seq.{get_or-take, get_or-drop, take-add, take_all, ext_get_or}
 use borrow.Author.Tests.{eq-eqb, ne_eqb}
 use Rattle.algebra.proofs.Poly.{le_or_lt}
 use Rattle.field.specs.Search.{up_to}
@@ -46,12 +47,6 @@ use Rattle.decoder.proofs.Parts.{splice, splice_long, part_here, part_before, pa
 use Rattle.decoder.proofs.Trying.{bytes_clear}
 
 -- ---- how much there is at most
-pub few_places : (n m : ℕ) → n ≤ 127 → m ≤ 16 → n * m ≤ 2032
-few_places n m h k = let q : n * m ≤ 127 * m = mul-le-mul_right m h in omega arith
-
-pub some_places : (n m : ℕ) → 1 ≤ n → 1 ≤ m → 1 ≤ n * m
-some_places n m h k = let q : 1 * m ≤ n * m = mul-le-mul_right m h in omega arith
-
 pub few_words : (m size : ℕ) → m ≤ 16 → size ≤ 16 → m * size ≤ 256
 few_words m size h k = let q : m * size ≤ 16 * size = mul-le-mul_right size h in omega arith
 
@@ -59,9 +54,6 @@ few_words m size h k = let q : m * size ≤ 16 * size = mul-le-mul_right size h 
 pub record TakenSome (m size k : ℕ) (block before words : List ℕ) : Type 0 where
   pub long : length words ≡ length before
   pub each : (i : ℕ) → i < k → Deinterleaved m i block (part (i * size) size words)
-
-pub taken_start : {m size : ℕ} {block words : List ℕ} → TakenSome m size 0 block words words
-taken_start = record { long = refl; each = λ i h. absurd (omega arith) }
 
 -- as the code has it: the part's size q is its end less its start, and the call kept its length
 pub taken_more : {m k : ℕ} (size : ℕ) {block before words : List ℕ} → k * size + size ≤ length before → TakenSome m size k block before words
@@ -82,31 +74,10 @@ taken_more {m} {k} size {block} {before} {words} room f q p new s y =
       ];
     })
 
-pub taken_end : {m size k : ℕ} {block before words : List ℕ} → m ≤ k → TakenSome m size k block before words → WordsDeinterleaved m size block words
-taken_end h f = record { each = λ i l. f.each i (omega arith) }
-
 -- ---- the verdicts
-pub record WrittenSome (counts : List ℕ) (k : ℕ) (verdicts : List ℕ) : Type 0 where
+pub record WrittenSome (counts : List (Option ℕ)) (k : ℕ) (verdicts : List ℕ) : Type 0 where
   pub long : length verdicts ≡ length counts
-  pub at : (i : ℕ) → i < k → get_or verdicts i 0 ≡ get_or counts i 0 % 256
-
-pub written_start : {counts verdicts : List ℕ} → length verdicts ≡ length counts → WrittenSome counts 0 verdicts
-written_start e = record { long = e; at = λ i h. absurd (omega arith) }
-
-pub written_more : {counts verdicts : List ℕ} (k : ℕ) → k < length counts → WrittenSome counts k verdicts
-    → WrittenSome counts (k + 1) (set verdicts k (get_or counts k 0 % 256))
-written_more {counts} {verdicts} k h w = record {
-  long = length-set verdicts k (get_or counts k 0 % 256) ∙ w.long;
-  at = λ i l. elim (ℕ_discrete i k) [
-    | yes e ↦
-        ap (λ (j : ℕ). get_or (set verdicts k (get_or counts k 0 % 256)) j 0) e
-        ∙ get_or-set_same verdicts k (get_or counts k 0 % 256) 0 (omega (arith, w.long)) ∙ ap (λ (j : ℕ). get_or counts j 0 % 256) (sym e)
-    | no e ↦ get_or-set_other verdicts k i (get_or counts k 0 % 256) 0 e ∙ w.at i (omega arith)
-  ];
-}
-
-pub written_end : {counts verdicts : List ℕ} {k : ℕ} → length counts ≤ k → WrittenSome counts k verdicts → VerdictsWritten counts verdicts
-written_end h w = record { at = λ i l. w.at i (omega arith) }
+  pub at : (i : ℕ) → i < k → get_or verdicts i 0 ≡ unwrap_or (get_or counts i None) 255
 
 -- ---- parts of one size, one after the other
 joined_front : (f : ℕ → List ℕ) (size m : ℕ) (l : List ℕ) → ((i : ℕ) → i < m → part (i * size) size l ≡ f i) → take (m * size) l ≡ flat_map f (up_to m)
@@ -153,32 +124,20 @@ differences_le : (n a b : ℕ) → differences n a b ≤ n
 unfolding differences
 differences_le n a b = total_most n _ (λ i. digit_lt _)
 
-module _ {x : Stated} (a : Accepted x) (few : x.n ≤ 127) {word out out' : List ℕ} (r : RightForm x word out) (v : ℕ)
-    (e : (verdict_as v, out') ≡ decode_entry [] x word out) where
-  told : {y : Answer} → verdict_as v ≡ y → Dec (v ≡ 65535) → ((v ≡ 65535) × (y ≡ refused 13)) ⊎ ((v ≢ 65535) × (y ≡ returned (v ∷ [])))
-  unfolding verdict_as
-  told {y} q (yes i) =
-      inl (i, sym q ∙ ap (λ (b : Bool). elim b as (λ _. Answer) [ true ↦ refused 13 | false ↦ returned (v ∷ []) ]) (eq-eqb v 65535 i))
-  told {y} q (no i) =
-      inr (i, sym q ∙ ap (λ (b : Bool). elim b as (λ _. Answer) [ true ↦ refused 13 | false ↦ returned (v ∷ []) ]) (ne_eqb v 65535 i))
-
-  pub verdict_is : v % 256 ≡ verdict_of (decode_entry [] x word out).0
+module _ {x : Stated} (a : Accepted x) (few : x.n ≤ 127) {word out out' : List ℕ} (r : RightForm x word out) where
+  pub verdict_is : (v : Option ℕ) → (verdict_as v, out') ≡ decode_entry [] x word out → unwrap_or v 255 ≡ verdict_of (decode_entry [] x word out).0
   unfolding verdict_for
-  verdict_is =
-      elim (told (ap (λ (y : Answer × List ℕ). y.0) e) (ℕ_discrete v 65535)) [
-        | inl h ↦ (let i = h.0 in omega arith) ∙ sym (ap verdict_of h.1)
-        | inr h ↦
-            elim (stated_either a silent word out r) [
-              | inl f ↦
-                  (let z : v ≡ changed x word f.0 =
-                  ap (λ (y : Answer). get_or y.values 0 0) (sym h.1 ∙ ap (λ (y : Answer × List ℕ). y.0) f.3) in
-                  omega (arith, differences_le x.n (word_of x word) f.0)) ∙ sym (ap verdict_of h.1)
-              | inr f ↦ absurd (omega (arith, ap (λ (y : Answer). y.number) (sym h.1 ∙ ap (λ (y : Answer × List ℕ). y.0) f.1)))
-            ]
+  verdict_is None e = ap (λ (y : Answer × List ℕ). verdict_of y.0) e
+  verdict_is (Some v) e =
+      elim (stated_either a silent word out r) [
+        | inl f ↦
+            (let z : v ≡ changed x word f.0 = ap (λ (y : Answer × List ℕ). get_or y.0.values 0 0) (e ∙ f.3) in
+            omega (arith, differences_le x.n (word_of x word) f.0)) ∙ ap (λ (y : Answer × List ℕ). verdict_of y.0) e
+        | inr f ↦ absurd (omega (arith, ap (λ (y : Answer × List ℕ). y.0.number) (e ∙ f.1)))
       ]
 
 -- ---- all words
-module _ {n t m : ℕ} {reps block out verdicts words out' counts verdicts' : List ℕ} (b : BlockReceivable n m block out verdicts) (few : n ≤ 127)
+module _ {n t m : ℕ} {reps block out verdicts words out' verdicts' : List ℕ} {counts : List (Option ℕ)} (b : BlockReceivable n m block out verdicts) (few : n ≤ 127)
     {size : ℕ} (e : size ≡ bytes_for n) (long : length words ≡ m * bytes_for n) (small : (k : ℕ) → get_or words k 0 < 256)
     (w : WordsDeinterleaved m size block words) (y : DecodedEach n n t reps size words out out' counts) (counts_long : length counts ≡ m)
     (v : VerdictsWritten counts verdicts') (out_long : length out' ≡ length out) (verdicts_long : length verdicts' ≡ length verdicts) where
@@ -192,7 +151,7 @@ module _ {n t m : ℕ} {reps block out verdicts words out' counts verdicts' : Li
     word : (i : ℕ) → i < m → part (i * size) size words ≡ block_word_bytes x.n m block i
     word i h = words_are b e long small w i h ∙ ap (λ (k : ℕ). block_word_bytes k m block i) u.n_is
 
-    decoded : (i : ℕ) → i < m → (verdict_as (get_or counts i 0), part (i * size) size out') ≡ part_decoded m x block out i
+    decoded : (i : ℕ) → i < m → (verdict_as (get_or counts i None), part (i * size) size out') ≡ part_decoded m x block out i
     unfolding part_decoded
     decoded i h =
         (y.each i (omega (arith, counts_long))).is x u 0 (omega (arith, u.n_is))
@@ -217,7 +176,7 @@ module _ {n t m : ℕ} {reps block out verdicts words out' counts verdicts' : Li
     unfolding part_decoded
     verdict i h =
         v.at i (omega (arith, counts_long))
-        ∙ verdict_is u.accepted (omega (arith, u.n_is)) (form i h) (get_or counts i 0) (decoded i h)
+        ∙ verdict_is u.accepted (omega (arith, u.n_is)) (form i h) (get_or counts i None) (decoded i h)
 
     verdicts_are : verdicts' ≡ block_verdicts m x block out
     unfolding block_verdicts

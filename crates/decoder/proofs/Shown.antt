@@ -10,6 +10,7 @@ use mathlib.Core.Path.{◌≡◌, refl, sym, ap, ap₂, ◌∙◌, subst}
 use mathlib.Core.Logic.{◌≢◌, ◌⊎◌, inl, inr}
 use mathlib.Core.Bool.{Bool, true, false}
 use mathlib.Core.List.{List, [], ◌∷◌}
+use Rattle.std.specs.Prelude.{Option, Some, None}
 use Prim.Native.Nat.{ℕ, suc, ◌^◌, ◌≤◌, ◌<◌}
 use native.Mathlib.Omega.{arith}
 use lib.Dec.{eqb}
@@ -34,7 +35,6 @@ use Rattle.certificate.proofs.Marks.{marked_found, marked_none, half_or_half, ze
 use Rattle.codeword.proofs.Places.{word_weights, mask_of_bytes, bytes_length}
 use Rattle.decoder.specs.Decode.{verdict_as}
 use Rattle.decoder.specs.Marked.{marks_in, unmarked_in, Passed, Markable, MarkedDecoded}
-use Rattle.decoder.proofs.Exits.{verdict_far, verdict_count}
 use Rattle.decoder.proofs.Weighing.{marks_are, unmarked_are}
 use Rattle.decoder.proofs.Trying.{bytes_clear, trial_clear}
 
@@ -43,6 +43,11 @@ zero_lt = omega arith
 
 one_lt : 1 < 2
 one_lt = omega arith
+
+-- a verdict that is a count is no refusal
+counted : (v : Option ℕ) → v ≢ None → (verdict_as v).number ≡ 0
+counted (Some m) h = refl
+counted None h = absurd (h refl)
 
 -- ---- a trial word
 module _ (x : Stated) (v : ℕ) (h : v < 2) (word marks : List ℕ) where
@@ -101,7 +106,7 @@ module _ {x : Stated} (a : Accepted x) {word marks zeros ones : List ℕ} (m : M
   abbrev d : ℕ
   d = distance_of x
 
-  module _ (v : ℕ) (h : v < 2) (verdict : ℕ) {bytes : List ℕ}
+  module _ (v : ℕ) (h : v < 2) (verdict : Option ℕ) {bytes : List ℕ}
       (e : (verdict_as verdict, bytes) ≡ decode_entry [] x (trial_word x v word marks) (trial_word x v word marks)) where
     abbrev T : List ℕ
     T = trial_word x v word marks
@@ -114,8 +119,8 @@ module _ {x : Stated} (a : Accepted x) {word marks zeros ones : List ℕ} (m : M
     record Outcome : Type 0 where
       pub long : length bytes ≡ bytes_for n
       pub clear : spare word_weight n bytes ≡ false
-      pub near : verdict ≢ 65535 → CodewordOf x (word_of x bytes)
-      pub far : verdict ≡ 65535 → ¬ CodewordOf x (word_of x bytes)
+      pub near : verdict ≢ None → CodewordOf x (word_of x bytes)
+      pub far : verdict ≡ None → ¬ CodewordOf x (word_of x bytes)
 
     outcome : Outcome
     outcome = go (stated_either a silent T T (trial_form x v h word marks T (trial_long x v h word marks)))
@@ -134,7 +139,7 @@ module _ {x : Stated} (a : Accepted x) {word marks zeros ones : List ℕ} (m : M
                   (omega (
                     arith,
                     ap (λ (y : Answer × List ℕ). y.0.number)
-                        (ap (λ (z : Answer). (z, bytes)) (verdict_far k) ∙ e ∙ f.3),
+                        (ap (λ (z : Option ℕ). (verdict_as z, bytes)) (sym k) ∙ e ∙ f.3),
                   ));
             }
         go (inr f) =
@@ -143,11 +148,7 @@ module _ {x : Stated} (a : Accepted x) {word marks zeros ones : List ℕ} (m : M
               long = ap length q ∙ trial_long x v h word marks;
               clear = ap (spare word_weight n) q ∙ (trial_form x v h word marks T (trial_long x v h word marks)).clear;
               near = λ k. absurd
-                  (omega (
-                    arith,
-                    ap (λ (y : Answer × List ℕ). y.0.number)
-                        (ap (λ (z : Answer). (z, bytes)) (verdict_count k) ∙ e ∙ f.1),
-                  ));
+                  (omega (arith, counted verdict k, ap (λ (y : Answer × List ℕ). y.0.number) (e ∙ f.1)));
               far = λ _ w. omega (
                 arith,
                 f.0 (word_of x bytes) w,
@@ -216,7 +217,7 @@ module _ {x : Stated} (a : Accepted x) {word marks zeros ones : List ℕ} (m : M
   shows b q e = e ∙ ap (λ t. elim t as (λ _. ℕ) [ true ↦ 0 | false ↦ 1 ]) (sym q)
 
   -- ---- both trials
-  module _ (first_verdict second_verdict : ℕ) {first second : List ℕ}
+  module _ (first_verdict second_verdict : Option ℕ) {first second : List ℕ}
       (e₀ : (verdict_as first_verdict, first) ≡ decode_entry [] x (trial_word x 0 word marks) (trial_word x 0 word marks))
       (e₁ : (verdict_as second_verdict, second) ≡ decode_entry [] x (trial_word x 1 word marks) (trial_word x 1 word marks)) where
     pub shown_zeros : Passed d first_verdict word marks first

@@ -1,7 +1,7 @@
 -- The trial words as they are written, and what they are.
 --
 --   zero_byte, one_byte      a byte of each
---   Trying, trying_start, trying_more, trying_end      byte by byte
+--   Trying      the first bytes of each are written
 --   few_bytes      both are at most 16 bytes long
 --   trial_bytes n v word marks      a trial word; bytes_clear, trial_clear: it has no spare bit
 --   trial_marked, trial_unmarked   its places
@@ -17,8 +17,8 @@ use native.Mathlib.Nat.{zero-mul, one-mul, zero-add}
 use native.Mathlib.Decide.{ℕ_discrete}
 use native.Mathlib.Omega.{arith}
 use lib.Bits.{bit_and, bit_or}
-use lib.ListN.{length, get_or, set, drop, length-set, get_or-eq_default}
-use lib.Seq.{get_or-set_same, get_or-set_other, get_or-take, get_or-drop}
+use lib.ListN.{length, get_or, drop, get_or-eq_default}
+use lib.Seq.{get_or-take, get_or-drop}
 use Rattle.algebra.proofs.Poly.{le_or_lt}
 use Rattle.field.specs.Mask.{coefficient}
 use Rattle.field.proofs.Xor.{digit, digit_lt}
@@ -44,37 +44,6 @@ pub record Trying (word marks : List ℕ) (j : ℕ) (trials : List ℕ) : Type 0
   pub long : length trials ≡ 2 * length word
   pub zeros : (i : ℕ) → i < j → get_or trials i 0 ≡ zero_byte word marks i
   pub ones : (i : ℕ) → i < j → get_or trials (length word + i) 0 ≡ one_byte word marks i
-
-pub trying_start : {word marks trials : List ℕ} → length trials ≡ 2 * length word → Trying word marks 0 trials
-trying_start e = record { long = e; zeros = λ i h. absurd (omega arith); ones = λ i h. absurd (omega arith) }
-
-pub trying_more : {word marks trials : List ℕ} (j : ℕ) → j < length word → Trying word marks j trials
-    → Trying word marks (j + 1) (set (set trials j (zero_byte word marks j)) (length word + j) (one_byte word marks j))
-trying_more {word} {marks} {trials} j h t =
-    let first : List ℕ = set trials j (zero_byte word marks j) in
-    let l : length first ≡ 2 * length word = length-set trials j (zero_byte word marks j) ∙ t.long in
-    record {
-      long = length-set first (length word + j) (one_byte word marks j) ∙ l;
-      zeros = λ i k.
-          get_or-set_other first (length word + j) i (one_byte word marks j) 0 (λ e. omega arith)
-          ∙ elim (ℕ_discrete i j) [
-            | yes e ↦
-                ap (λ (m : ℕ). get_or first m 0) e ∙ get_or-set_same trials j (zero_byte word marks j) 0 (omega (arith, t.long))
-                ∙ sym (ap (zero_byte word marks) e)
-            | no e ↦ get_or-set_other trials j i (zero_byte word marks j) 0 e ∙ t.zeros i (omega arith)
-          ];
-      ones = λ i k. elim (ℕ_discrete i j) [
-        | yes e ↦
-            ap (λ (m : ℕ). get_or (set first (length word + j) (one_byte word marks j)) (length word + m) 0) e
-            ∙ get_or-set_same first (length word + j) (one_byte word marks j) 0 (omega (arith, l)) ∙ sym (ap (one_byte word marks) e)
-        | no e ↦
-            get_or-set_other first (length word + j) (length word + i) (one_byte word marks j) 0 (λ q. e (omega arith))
-            ∙ get_or-set_other trials j (length word + i) (zero_byte word marks j) 0 (λ q. omega arith) ∙ t.ones i (omega arith)
-      ];
-    }
-
-pub trying_end : {word marks trials : List ℕ} (j : ℕ) → length word ≤ j → Trying word marks j trials → TrialsWritten word marks trials
-trying_end j h t = record { long = t.long; zeros = λ i l. t.zeros i (omega arith); ones = λ i l. t.ones i (omega arith) }
 
 -- ---- what they are
 pub few_bytes : (n : ℕ) → n ≤ 127 → bytes_for n ≤ 16

@@ -1,10 +1,10 @@
 -- What decoding a block passes on, and says. No entry's contract cites this file.
 --
 --   WordsDeinterleaved m size block words      the block's m words, one after the other
---   VerdictsWritten counts verdicts      verdicts as bytes, modulo 256: 65,535 becomes 255, and a count, which is below 255, stays
+--   VerdictsWritten counts verdicts      verdicts as bytes: a count stays, and None becomes 255
 --   BlockReceivable n m block out verdicts   all lengths are right, and no spare bit is 1
 --   BlockDecoded n t reps m block out verdicts reply      answer and bytes of the entry on an accepted sheet
-use Rattle.std.specs.Prelude.{◌≡◌, false, List, [], ℕ, ◌*◌, ◌%◌, ◌≤◌, ◌<◌, length, get_or}
+use Rattle.std.specs.Prelude.{◌≡◌, false, Option, None, unwrap_or, List, [], ℕ, ◌*◌, ◌≤◌, ◌<◌, length, get_or}
 use Rattle.document.specs.Answer.{Answer}
 use Rattle.document.specs.Layout.{word_weight, bytes_for, spare}
 use Rattle.document.specs.Sheet.{Stated}
@@ -15,8 +15,8 @@ use Rattle.decoder.specs.Decode.{States, part}
 pub record WordsDeinterleaved (m size : ℕ) (block words : List ℕ) : Type 0 where
   pub each : (i : ℕ) → i < m → Deinterleaved m i block (part (i * size) size words)
 
-pub record VerdictsWritten (counts verdicts : List ℕ) : Type 0 where
-  pub at : (i : ℕ) → i < length counts → get_or verdicts i 0 ≡ get_or counts i 0 % 256
+pub record VerdictsWritten (counts : List (Option ℕ)) (verdicts : List ℕ) : Type 0 where
+  pub at : (i : ℕ) → i < length counts → get_or verdicts i 0 ≡ unwrap_or (get_or counts i None) 255
 
 pub record BlockReceivable (n m : ℕ) (block out verdicts : List ℕ) : Type 0 where
   pub depth : m ≤ 16

@@ -1,14 +1,13 @@
 -- What correcting a word asks for, and says. No entry's contract cites this file.
 --
 --   Given n s t c reps       a certificate that keeps rules 1 to 4, with its radius
---   Chosen                   one of two slices
---   corrected_as, Verified    a correction in document 01's numbers, and what the last test lets through
+--   Choosable, Chosen        the first coefficients of one of two slices
+--   corrected_as, Verified    so many places to be changed, or None, in document 01's numbers, and what the last test lets through
 --   Workspace, Held, Correctable      lent slices that are long enough and hold 0 where they must, and a word
 --   Corrected                the codeword within t places, or that there is none
-use Rattle.std.specs.Prelude.{◌≡◌, Bool, true, false, List, [], ◌∷◌, ℕ, ◌+◌, ◌*◌, ◌/◌, ◌%◌, ◌^◌, ◌≤◌, ◌<◌, length, get_or}
+use Rattle.std.specs.Prelude.{◌≡◌, Bool, true, false, Option, Some, None, List, [], ◌∷◌, ℕ, ◌+◌, ◌*◌, ◌/◌, ◌%◌, ◌^◌, ◌≤◌, ◌<◌, length, get_or, take}
 use Rattle.field.specs.Mask.{◌⊕◌}
 use Rattle.field.specs.Field.{order_of_two}
-use Rattle.field.specs.Tables.{Tables}
 use Rattle.document.specs.Answer.{Answer, returned, refused}
 use Rattle.document.specs.Generator.{Codeword, differences}
 use Rattle.document.specs.Certificate.{radius}
@@ -20,8 +19,10 @@ use Rattle.binary.specs.Bits.{Holds}
 use Rattle.syndrome.specs.Sums.{Listed}
 use Rattle.poly.specs.Slice.{Short}
 use Rattle.syndrome.specs.Value.{Compared}
-use Rattle.decoder.specs.declared.types.Correction.{Correction}
-use Rattle.decoder.specs.declared.types.Correction.TheVariants.{Places, None}
+use Rattle.poly.specs.declared.types.Locator.{Locator}
+use Rattle.poly.specs.declared.types.Locator.TheVariants.{Lower, Upper}
+use Rattle.locator.specs.declared.terms.Term.{Term}
+use Rattle.locator.specs.declared.terms.Lanes.{Lanes}
 
 pub record Given (n s t : ℕ) (c : CodeCertificate) (reps : List ℕ) : Type 0 where
   pub length_stated : Length n
@@ -31,27 +32,31 @@ pub record Given (n s t : ℕ) (c : CodeCertificate) (reps : List ℕ) : Type 0 
   pub sound : Sound n reps (certificate_as c)
   pub t_is : t ≡ radius (certificate_as c)
 
--- ---- one of two slices
-pub record Chosen (upper : Bool) (lower_cofactor upper_cofactor locator : List ℕ) : Type 0 where
-  pub first : upper ≡ false → locator ≡ lower_cofactor
-  pub last : upper ≡ true → locator ≡ upper_cofactor
+-- ---- the first coefficients of one of two slices
+abbrev pub Choosable : Locator → List ℕ → List ℕ → Type 0
+Choosable (Lower len) lower_cofactor upper_cofactor = len ≤ length lower_cofactor
+Choosable (Upper len) lower_cofactor upper_cofactor = len ≤ length upper_cofactor
+
+abbrev pub Chosen : Locator → List ℕ → List ℕ → List ℕ → Type 0
+Chosen (Lower len) lower_cofactor upper_cofactor locator = locator ≡ take len lower_cofactor
+Chosen (Upper len) lower_cofactor upper_cofactor locator = locator ≡ take len upper_cofactor
 
 -- ---- the last test
 -- "Decoding returns the number of changed places"; refusal 13, "no codeword within t places"
-abbrev pub corrected_as : Correction → Answer
-corrected_as (Places m) = returned (m ∷ [])
+abbrev pub corrected_as : Option ℕ → Answer
+corrected_as (Some m) = returned (m ∷ [])
 corrected_as None = refused 13
 
 -- m listed places: 13 where they are more than t, or where the word with them changed is no codeword
 pub record Verified (n s t m : ℕ) (list reps val : List ℕ) (answer : Answer) : Type 0 where
   pub many : t < m → answer ≡ refused 13
   pub right : Bool
-  pub tested : m ≤ t → Compared n s m list reps val right
+  pub tested : m ≤ t → (m ≤ length list) × Compared n s (take m list) reps val right
   pub yes : m ≤ t → right ≡ true → answer ≡ returned (m ∷ [])
   pub no : m ≤ t → right ≡ false → answer ≡ refused 13
 
 -- ---- the whole
-pub record Workspace (n L : ℕ) (columns values upper lower lower_cofactor upper_cofactor exponents steps low high places : List ℕ) : Type 0 where
+pub record Workspace (n L : ℕ) (columns values upper lower lower_cofactor upper_cofactor : List ℕ) (terms : List Term) (lanes : List Lanes) (places : List ℕ) : Type 0 where
   pub columns_long : (n + 7) / 8 * 2 ≤ length columns
   pub places_long : n ≤ length places
   pub values_long : n ≤ length values
@@ -59,10 +64,8 @@ pub record Workspace (n L : ℕ) (columns values upper lower lower_cofactor uppe
   pub lower_long : L < length lower
   pub lower_cofactor_long : L < length lower_cofactor
   pub upper_cofactor_long : L < length upper_cofactor
-  pub exponents_long : (length lower_cofactor ≤ length exponents) × (length upper_cofactor ≤ length exponents)
-  pub steps_long : (length lower_cofactor ≤ length steps) × (length upper_cofactor ≤ length steps)
-  pub low_long : (length lower_cofactor ≤ length low) × (length upper_cofactor ≤ length low)
-  pub high_long : (length lower_cofactor ≤ length high) × (length upper_cofactor ≤ length high)
+  pub terms_long : (length lower_cofactor ≤ length terms) × (length upper_cofactor ≤ length terms)
+  pub lanes_long : (length lower_cofactor ≤ length lanes) × (length upper_cofactor ≤ length lanes)
   pub upper_zero : Short 0 upper
   pub lower_zero : Short 0 lower
   pub lower_cofactor_zero : Short 0 lower_cofactor
@@ -76,10 +79,8 @@ pub record Held (n : ℕ) (w : List ℕ) : Type 0 where
   pub whole : length w % 8 ≡ 0
   pub most : length w ≤ (n + 7) / 8 * 8
 
-pub record Correctable (n s t : ℕ) (c : CodeCertificate) (reps powers logs columns values upper lower lower_cofactor upper_cofactor exponents steps low high places bits : List ℕ) : Type 0 where
-  pub given : Given n s t c reps
-  pub tables : Tables s powers logs
-  pub space : Workspace n c.terms columns values upper lower lower_cofactor upper_cofactor exponents steps low high places
+pub record Correctable (n : ℕ) (c : CodeCertificate) (columns values upper lower lower_cofactor upper_cofactor : List ℕ) (terms : List Term) (lanes : List Lanes) (places bits : List ℕ) : Type 0 where
+  pub space : Workspace n c.terms columns values upper lower lower_cofactor upper_cofactor terms lanes places
   pub held : Held n bits
 
 -- of whatever word r it was: m places are listed, m at most t, and with them changed it is a codeword, m places from it; or none

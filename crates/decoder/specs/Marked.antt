@@ -10,15 +10,13 @@
 --   OnesShown, TrialsShown        what is answered and written by that: of the ones, where the zeros are not the answer, and of both
 --   Markable n word marks zeros ones     all lengths are right, and no spare bit is 1
 --   MarkedDecoded n t d reps word marks zeros ones reply     answer and bytes of the entry on an accepted sheet
-use Rattle.std.specs.Prelude.{◌≡◌, ◌≢◌, false, List, [], ◌∷◌, ℕ, ◌+◌, ◌-◌, ◌*◌, ◌≤◌, ◌<◌, length, get_or, take}
+use Rattle.std.specs.Prelude.{◌≡◌, ◌≢◌, false, Option, Some, None, List, [], ◌∷◌, ℕ, ◌+◌, ◌-◌, ◌*◌, ◌≤◌, ◌<◌, length, get_or, take}
 use Rattle.std.specs.Int.Bits.{bit_and, bit_or}
 use Rattle.document.specs.Answer.{Answer, returned, refused}
 use Rattle.document.specs.Layout.{word_weight, bytes_for, spare}
 use Rattle.document.specs.Sheet.{Stated}
 use Rattle.document.specs.Marked.{marked_count, unmarked_differences, distance_of, marked_entry}
 use Rattle.codeword.specs.Place.{whole_mask}
-use Rattle.decoder.specs.declared.types.Trial.{Trial}
-use Rattle.decoder.specs.declared.types.Trial.TheVariants.{Answer as Answer-of, Other}
 use Rattle.decoder.specs.Decode.{States, part}
 
 pub record TrialsWritten (word marks trials : List ℕ) : Type 0 where
@@ -40,16 +38,16 @@ pub record Weighable (word marks other : List ℕ) : Type 0 where
   pub few : length word ≤ 65535
 
 -- ---- one trial
-pub record Passed (d verdict : ℕ) (word marks decoded : List ℕ) : Type 0 where
-  pub near : verdict ≢ 65535
+pub record Passed (d : ℕ) (verdict : Option ℕ) (word marks decoded : List ℕ) : Type 0 where
+  pub near : verdict ≢ None
   pub within : 2 * unmarked_in word marks decoded + marks_in marks < d
 
 -- "returns e"; refusal 15, "no such codeword exists", unless the other trial word is the answer
-abbrev pub measured_as : Trial → Answer
-measured_as (Answer-of e) = returned (e ∷ [])
-measured_as Other = refused 15
+abbrev pub measured_as : Option ℕ → Answer
+measured_as (Some e) = returned (e ∷ [])
+measured_as None = refused 15
 
-pub record Measured (d verdict : ℕ) (word marks decoded : List ℕ) (answer : Answer) : Type 0 where
+pub record Measured (d : ℕ) (verdict : Option ℕ) (word marks decoded : List ℕ) (answer : Answer) : Type 0 where
   pub found : (e : ℕ) → answer ≡ returned (e ∷ []) → Passed d verdict word marks decoded × (e ≡ unmarked_in word marks decoded)
   pub none : answer ≡ refused 15 → ¬ Passed d verdict word marks decoded
 
@@ -68,12 +66,12 @@ module _ (word marks decoded zeros ones : List ℕ) where
   abbrev pub tried_ones : List ℕ
   tried_ones = part (length word) (length word) decoded
 
-  pub record OnesShown (d verdict : ℕ) (reply : Answer × (List ℕ × List ℕ)) : Type 0 where
+  pub record OnesShown (d : ℕ) (verdict : Option ℕ) (reply : Answer × (List ℕ × List ℕ)) : Type 0 where
     pub shown : Passed d verdict word marks tried_ones
         → reply ≡ (returned (unmarked_in word marks tried_ones ∷ 1 ∷ []), (tried_zeros, tried_ones))
     pub none : ¬ Passed d verdict word marks tried_ones → reply ≡ (refused 15, (zeros, ones))
 
-  pub record TrialsShown (d zeros_verdict ones_verdict : ℕ) (reply : Answer × (List ℕ × List ℕ)) : Type 0 where
+  pub record TrialsShown (d : ℕ) (zeros_verdict ones_verdict : Option ℕ) (reply : Answer × (List ℕ × List ℕ)) : Type 0 where
     pub first : Passed d zeros_verdict word marks tried_zeros
         → reply ≡ (returned (unmarked_in word marks tried_zeros ∷ 0 ∷ []), (tried_zeros, tried_ones))
     pub second : ¬ Passed d zeros_verdict word marks tried_zeros → OnesShown d ones_verdict reply

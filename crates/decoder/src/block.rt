@@ -6,100 +6,83 @@
 ghost use Rattle.std.specs.Prelude.{◌≡◌, [], ◌∷◌, ◌*◌, ◌<◌, ◌≤◌, length};
 ghost use Rattle.document.specs.Answer.{returned, replied_as};
 ghost use Rattle.document.specs.Layout.{bytes_for};
-ghost use Rattle.decoder.specs.Correct.{Given};
 ghost use Rattle.decoder.specs.Block.{WordsDeinterleaved, VerdictsWritten, BlockReceivable, BlockDecoded};
 
+use crate::stated::StatedCode;
 use crate::tables::decode_words;
 use codeword::block::deinterleave_word;
-use codeword::layout::{bytes_for, spare_word};
-use document::types::{Refusal, Reply};
-use sheet::types::Certificate;
+use codeword::layout::{Layout, Word, bytes_for};
+use document::types::Refusal;
 
 // The m words of a block, of `size` bytes each.
 fn deinterleave(m: usize, size: usize, block: &[u8], words: &mut [u8])
     requires { (m ≤ 16) × (size ≤ 128) × (length words.old ≡ m * size) }
     ensures { WordsDeinterleaved m size block.now words.new }
 {
-    let mut i: usize = 0;
-    while i < m {
+    for i in 0..m {
         let start = i * size;
         let end = start + size;
         deinterleave_word(m, i, block, &mut words[start..end]);
-        i = i + 1;
     }
 }
 
-// Verdicts as bytes, modulo 256: a count of changed places, at most 127, stays as it is, and 65,535 for none near becomes 255.
-fn write_verdicts(counts: &[usize], verdicts: &mut [u8])
+// Verdicts as bytes: a count of changed places stays as it is, and none near becomes 255: they are bytes, since C lends them.
+fn write_verdicts(counts: &[Option<u8>], verdicts: &mut [u8])
     requires { length verdicts.old ≡ length counts.now }
     ensures { VerdictsWritten counts.now verdicts.new }
 {
-    let mut i: usize = 0;
-    while i < counts.len() {
-        verdicts[i] = (counts[i] % 256) as u8;
-        i = i + 1;
+    for (i, count) in counts.iter().enumerate() {
+        verdicts[i] = count.unwrap_or(255);
     }
 }
 
 // The words taken out and decoded, in slices lent for that.
 fn decode_interleaved(
-    n: usize,
-    s: usize,
-    t: usize,
-    c: Certificate,
-    representatives: &[u16],
+    code: &StatedCode,
     m: usize,
     block: &[u8],
     words: &mut [u8],
-    counts: &mut [usize],
+    counts: &mut [Option<u8>],
     out: &mut [u8],
     verdicts: &mut [u8],
 )
-    requires { Given n s t c representatives.now × BlockReceivable n m block.now out.old verdicts.old × (length words.old ≡ m * bytes_for n) × (length counts.old ≡ m) × (c.terms < 1024) × (n ≤ 127) }
-    ensures { BlockDecoded n t representatives.now m block.now out.old verdicts.old (returned (0 ∷ []), (out.new, verdicts.new)) }
+    requires { BlockReceivable code.now.n m block.now out.old verdicts.old × (length words.old ≡ m * bytes_for code.now.n) × (length counts.old ≡ m) × (code.now.certificate.terms < 1024) × (code.now.n ≤ 127) }
+    ensures { BlockDecoded code.now.n code.now.t code.now.representatives.now m block.now out.old verdicts.old (returned (0 ∷ []), (out.new, verdicts.new)) }
 {
-    let size = bytes_for(n);
+    let size = bytes_for(code.n);
     deinterleave(m, size, block, words);
-    decode_words(n, s, t, c, representatives, size, words, out, counts);
+    decode_words(code, code.n, size, words, out, counts);
     write_verdicts(counts, verdicts);
 }
 
-// Refusals 11 and 12, and both buffers where none is drawn. c is the working certificate.
+// Refusals 11 and 12, and both buffers where none is drawn.
 pub fn decode_block_accepted(
-    n: usize,
-    s: usize,
-    t: usize,
-    c: Certificate,
-    representatives: &[u16],
+    code: &StatedCode,
     m: usize,
     block: &[u8],
     out: &mut [u8],
     verdicts: &mut [u8],
-) -> Reply
-    requires { Given n s t c representatives.now × (c.terms < 1024) × (n ≤ 127) × (2 ≤ m) × (m ≤ 16) }
-    ensures { BlockDecoded n t representatives.now m block.now out.old verdicts.old (replied_as result, (out.new, verdicts.new)) }
+) -> Result<usize, Refusal>
+    requires { (code.now.certificate.terms < 1024) × (code.now.n ≤ 127) × (2 ≤ m) × (m ≤ 16) }
+    ensures { BlockDecoded code.now.n code.now.t code.now.representatives.now m block.now out.old verdicts.old (replied_as result, (out.new, verdicts.new)) }
 {
-    let size = bytes_for(n);
-    if block.len() != bytes_for(n * m) {
-        return Reply::Refused(Refusal::BufferLength);
+    let size = bytes_for(code.n);
+    if block.len() != bytes_for(code.n * m) {
+        return Err(Refusal::BufferLength);
     }
     if out.len() != m * size {
-        return Reply::Refused(Refusal::BufferLength);
+        return Err(Refusal::BufferLength);
     }
     if verdicts.len() != m {
-        return Reply::Refused(Refusal::BufferLength);
+        return Err(Refusal::BufferLength);
     }
-    if spare_word(n * m, block) {
-        return Reply::Refused(Refusal::SpareBit);
+    if Word::spare(code.n * m, block) {
+        return Err(Refusal::SpareBit);
     }
     let mut words = [0u8; 256];
-    let mut counts = [0usize; 16];
+    let mut counts = [None; 16];
     decode_interleaved(
-        n,
-        s,
-        t,
-        c,
-        representatives,
+        code,
         m,
         block,
         &mut words[..m * size],
@@ -107,5 +90,5 @@ pub fn decode_block_accepted(
         out,
         verdicts,
     );
-    Reply::Done(0)
+    Ok(0)
 }

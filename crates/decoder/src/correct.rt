@@ -1,20 +1,24 @@
 // The places at which a received word is to be changed, in lent slices: values, syndromes, Euclid's rows, places, and the test of
 // whatever places came out. arrays.rt has the slices.
-ghost use Rattle.std.specs.Prelude.{◌≤◌};
+ghost use Rattle.std.specs.Prelude.{◌≡◌, ◌≤◌, length, take};
+ghost use Rattle.field.specs.Tables.{Powered};
 ghost use Rattle.syndrome.specs.Value.{Comparable};
 ghost use Rattle.codeword.specs.Place.{places_of};
-ghost use Rattle.decoder.specs.Correct.{corrected_as, Verified, Chosen, Correctable, Corrected};
+ghost use Rattle.decoder.specs.Correct.{corrected_as, Verified, Choosable, Chosen, Correctable, Corrected};
 
-use crate::types::Correction;
+use crate::stated::StatedCode;
 use binary::factor::degree;
+use field::tables::{FieldTables, PowerTable};
 use locator::locate::locate;
+use locator::terms::{Lanes, Term};
 use poly::euclid::euclid;
-use sheet::types::Certificate;
+use poly::types::Locator;
 use syndrome::agreement::agrees;
 use syndrome::syndromes::syndromes;
 use syndrome::values::{evaluate, extend};
 
-// Whatever places a locator has, they are let through only if they are at most t and changing them gives a codeword.
+// Whatever places a locator has, they are let through only if they are at most t and changing them gives a codeword. The table of powers is
+// made here: where more than t places are listed nothing is asked of it, and only where m is at most t are m places there to be cut off.
 pub fn verdict(
     n: usize,
     s: usize,
@@ -24,92 +28,97 @@ pub fn verdict(
     representatives: &[u16],
     values: &[u16],
     powers: &[u16],
-) -> Correction
-    requires { m ≤ t → Comparable n s m places.now representatives.now values.now powers.now }
+) -> Option<usize>
+    requires { m ≤ t → Powered s powers.now × (m ≤ length places.now) × Comparable n s (take m places.now) representatives.now values.now }
     ensures { Verified n s t m places.now representatives.now values.now (corrected_as result) }
 {
     if t < m {
-        return Correction::None;
+        return None;
     }
-    if agrees(places, m, n, s, representatives, values, powers) {
-        return Correction::Places(m);
+    let power_table = PowerTable { s, powers };
+    if agrees(&places[..m], n, representatives, values, &power_table) {
+        return Some(m);
     }
-    Correction::None
+    None
 }
 
-// The slice that holds the locator: a cofactor of Euclid's rows.
-fn holder<'a>(upper: bool, lower_cofactor: &'a [u16], upper_cofactor: &'a [u16]) -> &'a [u16]
-    ensures { Chosen upper lower_cofactor.now upper_cofactor.now result.now }
+// The locator: the first coefficients of a cofactor of Euclid's rows.
+fn holder<'a>(locator: Locator, lower_cofactor: &'a [u16], upper_cofactor: &'a [u16]) -> &'a [u16]
+    requires { Choosable locator lower_cofactor.now upper_cofactor.now }
+    ensures { Chosen locator lower_cofactor.now upper_cofactor.now result.now }
 {
-    if upper {
-        upper_cofactor
-    } else {
-        lower_cofactor
+    match locator {
+        Locator::Lower(len) => &lower_cofactor[..len],
+        Locator::Upper(len) => &upper_cofactor[..len],
     }
 }
 
-// The places that turn a word into the codeword within t places of it, if there is one.
+// The slices that correcting a word works in: the word's columns, its values, Euclid's two rows with their cofactors, and the locator's
+// terms with their lanes.
+pub struct Workspace<'a> {
+    pub columns: &'a mut [u64],
+    pub values: &'a mut [u16],
+    pub upper: &'a mut [u16],
+    pub lower: &'a mut [u16],
+    pub lower_cofactor: &'a mut [u16],
+    pub upper_cofactor: &'a mut [u16],
+    pub terms: &'a mut [Term],
+    pub lanes: &'a mut [Lanes],
+}
+
+// The places that turn a word into the codeword within t places of it, if there is one. They are lent beside the workspace: the caller reads
+// them when that is gone.
 pub fn correct(
-    n: usize,
-    s: usize,
-    t: usize,
-    c: Certificate,
-    representatives: &[u16],
-    powers: &[u16],
-    logs: &[u16],
-    columns: &mut [u64],
-    values: &mut [u16],
-    upper: &mut [u16],
-    lower: &mut [u16],
-    lower_cofactor: &mut [u16],
-    upper_cofactor: &mut [u16],
-    exponents: &mut [u16],
-    steps: &mut [u16],
-    low: &mut [u64],
-    high: &mut [u64],
+    code: &StatedCode,
+    tables: &FieldTables,
+    workspace: Workspace,
     places: &mut [u16],
     word: &[u8],
-) -> Correction
-    requires { Correctable n s t c representatives.now powers.now logs.now columns.old values.old upper.old lower.old lower_cofactor.old upper_cofactor.old exponents.old steps.old low.old high.old places.old (places_of word.now) }
-    ensures { Corrected n t representatives.now (places_of word.now) places.new (corrected_as result) }
+) -> Option<usize>
+    requires { (tables.now.s ≡ code.now.s) × Correctable code.now.n code.now.certificate workspace.columns.now workspace.values.now workspace.upper.now workspace.lower.now workspace.lower_cofactor.now workspace.upper_cofactor.now workspace.terms.now workspace.lanes.now places.old (places_of word.now) }
+    ensures { Corrected code.now.n code.now.t code.now.representatives.now (places_of word.now) places.new (corrected_as result) }
 {
-    if evaluate(word, n, s, representatives, powers, logs, columns, values) {
-        return Correction::Places(0);
-    }
-    extend(n, s, representatives, powers, logs, values);
-    syndromes(n, c, values, lower);
-    let f = c.f as usize;
-    let terms = c.terms as usize;
-    let u = degree(f);
-    let found = euclid(
-        s,
+    let n = code.n;
+    let c = code.certificate;
+    let Workspace {
+        columns,
+        values,
         upper,
         lower,
         lower_cofactor,
         upper_cofactor,
         terms,
-        terms - t * u,
-        powers,
-        logs,
+        lanes,
+    } = workspace;
+    if evaluate(word, n, code.representatives, tables, columns, values) {
+        return Some(0);
+    }
+    extend(n, code.representatives, tables, values);
+    syndromes(n, c, values, lower);
+    let f = c.f as usize;
+    let u = degree(f);
+    let length = c.terms as usize;
+    let stop = length - code.t * u;
+    let found = euclid(
+        tables,
+        upper,
+        lower,
+        lower_cofactor,
+        upper_cofactor,
+        length,
+        stop,
     );
-    let locator = holder(found.upper, lower_cofactor, upper_cofactor);
-    let len = found.len;
-    let m = locate(
+    let locator = holder(found, lower_cofactor, upper_cofactor);
+    let z = c.z as usize;
+    let m = locate(n, z, f, u, code.t, locator, tables, terms, lanes, places);
+    verdict(
         n,
-        s,
-        c.z as usize,
-        f,
-        u,
-        t,
-        locator,
-        len,
-        powers,
-        logs,
-        exponents,
-        steps,
-        low,
-        high,
+        tables.s,
+        code.t,
+        m,
         places,
-    );
-    verdict(n, s, t, m, places, representatives, values, powers)
+        code.representatives,
+        values,
+        tables.powers,
+    )
 }

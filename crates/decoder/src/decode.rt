@@ -17,41 +17,33 @@
 // Cost: some R·n/4 + L·t·u + n·t·u table reads for n places, R representatives and f of degree u. No pattern of errors is tried.
 ghost use Rattle.std.specs.Prelude.{◌<◌, ◌≤◌};
 ghost use Rattle.document.specs.Answer.{replied_as};
-ghost use Rattle.decoder.specs.Correct.{Given};
 ghost use Rattle.decoder.specs.Decode.{Decoded};
 
+use crate::stated::StatedCode;
 use crate::tables::decode_word;
-use codeword::layout::{bytes_for, spare_word};
-use document::types::{Refusal, Reply};
-use sheet::types::Certificate;
+use codeword::layout::{Layout, Word, bytes_for};
+use document::types::Refusal;
 
-// Refusals 11, 12 and 13, and the corrected word where none is drawn. c is the working certificate. Of the n places so many are sent: all of
-// them, or those of a shortened code, whose codewords are the ones that have 0 above.
+// Refusals 11, 12 and 13, and the corrected word where none is drawn. Of the n places so many are sent: all of them, or those of a shortened
+// code, whose codewords are the ones that have 0 above.
 pub fn decode_accepted(
-    n: usize,
+    code: &StatedCode,
     sent: usize,
-    s: usize,
-    t: usize,
-    c: Certificate,
-    representatives: &[u16],
     word: &[u8],
     out: &mut [u8],
-) -> Reply
-    requires { Given n s t c representatives.now × (c.terms < 1024) × (n ≤ 127) × (1 ≤ sent) × (sent ≤ n) }
-    ensures { Decoded n sent t representatives.now word.now out.old out.new (replied_as result) }
+) -> Result<usize, Refusal>
+    requires { (code.now.certificate.terms < 1024) × (code.now.n ≤ 127) × (1 ≤ sent) × (sent ≤ code.now.n) }
+    ensures { Decoded code.now.n sent code.now.t code.now.representatives.now word.now out.old out.new (replied_as result) }
 {
     if word.len() != bytes_for(sent) {
-        return Reply::Refused(Refusal::BufferLength);
+        return Err(Refusal::BufferLength);
     }
     if out.len() != bytes_for(sent) {
-        return Reply::Refused(Refusal::BufferLength);
+        return Err(Refusal::BufferLength);
     }
-    if spare_word(sent, word) {
-        return Reply::Refused(Refusal::SpareBit);
+    if Word::spare(sent, word) {
+        return Err(Refusal::SpareBit);
     }
-    let count = decode_word(n, sent, s, t, c, representatives, word, out);
-    if count == 65535 {
-        return Reply::Refused(Refusal::NoneNear);
-    }
-    Reply::Done(count)
+    let count = decode_word(code, sent, word, out).ok_or(Refusal::NoneNear)?;
+    Ok(usize::from(count))
 }

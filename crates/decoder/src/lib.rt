@@ -2,8 +2,8 @@
 // refusal 15; and a block of words. decode.rt says how it goes, marked.rt with marks, block.rt with a block.
 #![tactic(auto)]
 
-// what correcting a word says
-pub mod types;
+// the code that an accepted sheet states
+pub mod stated;
 
 // values, syndromes, rows, places and the last test, in lent slices
 pub mod correct;

@@ -6,52 +6,36 @@
 // tables, and the first that gives a codeword with 2·e + r ≤ d - 1 is shown. No lent buffer is touched before that is known.
 ghost use Rattle.std.specs.Prelude.{◌≡◌, ◌*◌, ◌<◌, ◌≤◌, length};
 ghost use Rattle.document.specs.Answer.{marked_as};
-ghost use Rattle.decoder.specs.Correct.{Given};
 ghost use Rattle.decoder.specs.Marked.{Markable, MarkedDecoded};
 
-use crate::repair::copy;
+use crate::stated::StatedCode;
 use crate::tables::decode_words;
 use crate::trials::{show, write_trials};
-use codeword::layout::{bytes_for, spare_word};
-use document::types::{MarkedReply, Refusal};
-use sheet::types::Certificate;
+use codeword::layout::{Layout, Word, bytes_for};
+use document::types::{Refusal, Shown};
 
 // Both trial words written and decoded, in slices lent for that, and the answer shown; or refusal 15.
 fn decode_trials(
-    n: usize,
-    s: usize,
-    t: usize,
+    code: &StatedCode,
     d: usize,
-    c: Certificate,
-    representatives: &[u16],
     word: &[u8],
     marks: &[u8],
     trials: &mut [u8],
     decoded: &mut [u8],
     zeros: &mut [u8],
     ones: &mut [u8],
-) -> MarkedReply
-    requires { Given n s t c representatives.now × Markable n word.now marks.now zeros.old ones.old × (length trials.old ≡ 2 * length word.now) × (length decoded.old ≡ 2 * length word.now) × (c.terms < 1024) × (n ≤ 127) }
-    ensures { MarkedDecoded n t d representatives.now word.now marks.now zeros.old ones.old (marked_as result, (zeros.new, ones.new)) }
+) -> Result<Shown, Refusal>
+    requires { Markable code.now.n word.now marks.now zeros.old ones.old × (length trials.old ≡ 2 * length word.now) × (length decoded.old ≡ 2 * length word.now) × (code.now.certificate.terms < 1024) × (code.now.n ≤ 127) }
+    ensures { MarkedDecoded code.now.n code.now.t d code.now.representatives.now word.now marks.now zeros.old ones.old (marked_as result, (zeros.new, ones.new)) }
 {
-    let mut verdicts = [0usize; 2];
+    let mut verdicts = [None; 2];
     write_trials(word, marks, trials);
-    copy(trials, decoded);
-    decode_words(
-        n,
-        s,
-        t,
-        c,
-        representatives,
-        word.len(),
-        trials,
-        decoded,
-        &mut verdicts,
-    );
+    decoded.copy_from_slice(trials);
+    decode_words(code, code.n, word.len(), trials, decoded, &mut verdicts);
     show(
         d,
-        verdicts[0],
-        verdicts[1],
+        verdicts[0].map(usize::from),
+        verdicts[1].map(usize::from),
         word,
         marks,
         decoded,
@@ -60,50 +44,42 @@ fn decode_trials(
     )
 }
 
-// Refusals 11, 12 and 15, and both trial buffers where none is drawn. c is the working certificate, and d its distance.
+// Refusals 11, 12 and 15, and both trial buffers where none is drawn. d is the distance of the certificate at work.
 pub fn decode_marked_accepted(
-    n: usize,
-    s: usize,
-    t: usize,
+    code: &StatedCode,
     d: usize,
-    c: Certificate,
-    representatives: &[u16],
     word: &[u8],
     marks: &[u8],
     zeros: &mut [u8],
     ones: &mut [u8],
-) -> MarkedReply
-    requires { Given n s t c representatives.now × (c.terms < 1024) × (n ≤ 127) }
-    ensures { MarkedDecoded n t d representatives.now word.now marks.now zeros.old ones.old (marked_as result, (zeros.new, ones.new)) }
+) -> Result<Shown, Refusal>
+    requires { (code.now.certificate.terms < 1024) × (code.now.n ≤ 127) }
+    ensures { MarkedDecoded code.now.n code.now.t d code.now.representatives.now word.now marks.now zeros.old ones.old (marked_as result, (zeros.new, ones.new)) }
 {
-    let size = bytes_for(n);
+    let size = bytes_for(code.n);
     if word.len() != size {
-        return MarkedReply::Refused(Refusal::BufferLength);
+        return Err(Refusal::BufferLength);
     }
     if marks.len() != size {
-        return MarkedReply::Refused(Refusal::BufferLength);
+        return Err(Refusal::BufferLength);
     }
     if zeros.len() != size {
-        return MarkedReply::Refused(Refusal::BufferLength);
+        return Err(Refusal::BufferLength);
     }
     if ones.len() != size {
-        return MarkedReply::Refused(Refusal::BufferLength);
+        return Err(Refusal::BufferLength);
     }
-    if spare_word(n, word) {
-        return MarkedReply::Refused(Refusal::SpareBit);
+    if Word::spare(code.n, word) {
+        return Err(Refusal::SpareBit);
     }
-    if spare_word(n, marks) {
-        return MarkedReply::Refused(Refusal::SpareBit);
+    if Word::spare(code.n, marks) {
+        return Err(Refusal::SpareBit);
     }
     let mut trials = [0u8; 32];
     let mut decoded = [0u8; 32];
     decode_trials(
-        n,
-        s,
-        t,
+        code,
         d,
-        c,
-        representatives,
         word,
         marks,
         &mut trials[..2 * size],

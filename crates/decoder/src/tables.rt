@@ -1,299 +1,67 @@
 // The tables that decoding works with, by the field's degree: s up to 6, 8 or 12. They are filled once, for any number of words.
 //
-// As in arrays.rt each function that owns arrays keeps a frame of its own: it is called at two places, and which arrays it goes on with is
-// known only as it runs, so that the compiler does not join it with either.
-ghost use Rattle.std.specs.Prelude.{◌≡◌, false, ◌<◌, ◌≤◌, length};
-ghost use Rattle.decoder.specs.Correct.{Given};
+// As in arrays.rt each function that owns arrays keeps a frame of its own.
+ghost use Rattle.std.specs.Prelude.{◌≡◌, ◌*◌, ◌^◌, ◌<◌, ◌≤◌, length};
 ghost use Rattle.decoder.specs.Decode.{Receivable, Lined, verdict_as, Decoded, DecodedEach};
 
-use crate::arrays::{each_with_long_arrays, each_with_short_arrays};
-use field::tables::fill;
-use sheet::types::Certificate;
+use crate::arrays::each_with_arrays;
+use crate::stated::StatedCode;
+use field::tables::FieldTables;
 
-// s up to 6.
-fn with_smallest_tables(
-    n: usize,
+// Tables of so many powers and logarithms; arrays for the certificate's terms.
+#[inline(never)]
+fn with_tables<const POWERS: usize, const LOGS: usize>(
+    code: &StatedCode,
     sent: usize,
-    s: usize,
-    t: usize,
-    c: Certificate,
-    representatives: &[u16],
     size: usize,
     words: &[u8],
     out: &mut [u8],
-    verdicts: &mut [usize],
-    long: bool,
+    verdicts: &mut [Option<u8>],
 )
-    requires { Given n s t c representatives.now × Lined n sent size (length verdicts.old) words.now out.old × (long ≡ false → c.terms < 64) × (s ≤ 6) × (c.terms < 1024) × (n ≤ 127) }
-    ensures { DecodedEach n sent t representatives.now size words.now out.old out.new verdicts.new }
+    requires { Lined code.now.n sent size (length verdicts.old) words.now out.old × (5 * 2 ^ code.now.s ≤ POWERS) × (2 ^ code.now.s ≤ LOGS) × (POWERS ≤ 20480) × (LOGS ≤ 4096) × (code.now.certificate.terms < 1024) × (code.now.n ≤ 127) }
+    ensures { DecodedEach code.now.n sent code.now.t code.now.representatives.now size words.now out.old out.new verdicts.new }
 {
-    let mut powers = [0u16; 320];
-    let mut logs = [0u16; 64];
-    fill(s, &mut powers, &mut logs);
-    if long {
-        each_with_long_arrays(
-            n,
-            sent,
-            s,
-            t,
-            c,
-            representatives,
-            &powers,
-            &logs,
-            size,
-            words,
-            out,
-            verdicts,
-        );
-        return;
+    let mut powers = [0u16; POWERS];
+    let mut logs = [0u16; LOGS];
+    let tables = FieldTables::fill(code.s, &mut powers, &mut logs);
+    if code.certificate.terms < 64 {
+        each_with_arrays::<64>(code, sent, &tables, size, words, out, verdicts);
+    } else {
+        each_with_arrays::<1024>(code, sent, &tables, size, words, out, verdicts);
     }
-    each_with_short_arrays(
-        n,
-        sent,
-        s,
-        t,
-        c,
-        representatives,
-        &powers,
-        &logs,
-        size,
-        words,
-        out,
-        verdicts,
-    );
 }
 
-// s up to 8.
-fn with_small_tables(
-    n: usize,
-    sent: usize,
-    s: usize,
-    t: usize,
-    c: Certificate,
-    representatives: &[u16],
-    size: usize,
-    words: &[u8],
-    out: &mut [u8],
-    verdicts: &mut [usize],
-    long: bool,
-)
-    requires { Given n s t c representatives.now × Lined n sent size (length verdicts.old) words.now out.old × (long ≡ false → c.terms < 64) × (s ≤ 8) × (c.terms < 1024) × (n ≤ 127) }
-    ensures { DecodedEach n sent t representatives.now size words.now out.old out.new verdicts.new }
-{
-    let mut powers = [0u16; 1280];
-    let mut logs = [0u16; 256];
-    fill(s, &mut powers, &mut logs);
-    if long {
-        each_with_long_arrays(
-            n,
-            sent,
-            s,
-            t,
-            c,
-            representatives,
-            &powers,
-            &logs,
-            size,
-            words,
-            out,
-            verdicts,
-        );
-        return;
-    }
-    each_with_short_arrays(
-        n,
-        sent,
-        s,
-        t,
-        c,
-        representatives,
-        &powers,
-        &logs,
-        size,
-        words,
-        out,
-        verdicts,
-    );
-}
+// size, words, out and verdicts are handed down as they came: a struct of them would be opened in each_with_arrays alone.
 
-// s up to 12.
-fn with_large_tables(
-    n: usize,
-    sent: usize,
-    s: usize,
-    t: usize,
-    c: Certificate,
-    representatives: &[u16],
-    size: usize,
-    words: &[u8],
-    out: &mut [u8],
-    verdicts: &mut [usize],
-    long: bool,
-)
-    requires { Given n s t c representatives.now × Lined n sent size (length verdicts.old) words.now out.old × (long ≡ false → c.terms < 64) × (c.terms < 1024) × (n ≤ 127) }
-    ensures { DecodedEach n sent t representatives.now size words.now out.old out.new verdicts.new }
-{
-    let mut powers = [0u16; 20480];
-    let mut logs = [0u16; 4096];
-    fill(s, &mut powers, &mut logs);
-    if long {
-        each_with_long_arrays(
-            n,
-            sent,
-            s,
-            t,
-            c,
-            representatives,
-            &powers,
-            &logs,
-            size,
-            words,
-            out,
-            verdicts,
-        );
-        return;
-    }
-    each_with_short_arrays(
-        n,
-        sent,
-        s,
-        t,
-        c,
-        representatives,
-        &powers,
-        &logs,
-        size,
-        words,
-        out,
-        verdicts,
-    );
-}
-
-// One word, of which so many places are sent and the others are 0: its codeword within t places that has them 0 too into out, and the
-// number of changed places; or 65,535, and out as it was, where there is none.
-pub fn decode_word(
-    n: usize,
-    sent: usize,
-    s: usize,
-    t: usize,
-    c: Certificate,
-    representatives: &[u16],
-    word: &[u8],
-    out: &mut [u8],
-) -> usize
-    requires { Given n s t c representatives.now × Receivable n sent word.now out.old × (c.terms < 1024) × (n ≤ 127) }
-    ensures { Decoded n sent t representatives.now word.now out.old out.new (verdict_as result) }
-{
-    let mut verdicts = [0usize; 1];
-    let size = word.len();
-    let long = 64 <= c.terms;
-    if s <= 6 {
-        with_smallest_tables(
-            n,
-            sent,
-            s,
-            t,
-            c,
-            representatives,
-            size,
-            word,
-            out,
-            &mut verdicts,
-            long,
-        );
-        return verdicts[0];
-    }
-    if s <= 8 {
-        with_small_tables(
-            n,
-            sent,
-            s,
-            t,
-            c,
-            representatives,
-            size,
-            word,
-            out,
-            &mut verdicts,
-            long,
-        );
-        return verdicts[0];
-    }
-    with_large_tables(
-        n,
-        sent,
-        s,
-        t,
-        c,
-        representatives,
-        size,
-        word,
-        out,
-        &mut verdicts,
-        long,
-    );
-    verdicts[0]
-}
-
-// Words of `size` bytes one after the other, as many as there are verdicts: each decoded into its own bytes of out, with its verdict.
+// Words of `size` bytes one after the other, as many as there are verdicts, of which so many places are sent and the others are 0: each
+// decoded into its own bytes of out, with its verdict.
 pub fn decode_words(
-    n: usize,
-    s: usize,
-    t: usize,
-    c: Certificate,
-    representatives: &[u16],
+    code: &StatedCode,
+    sent: usize,
     size: usize,
     words: &[u8],
     out: &mut [u8],
-    verdicts: &mut [usize],
+    verdicts: &mut [Option<u8>],
 )
-    requires { Given n s t c representatives.now × Lined n n size (length verdicts.old) words.now out.old × (c.terms < 1024) × (n ≤ 127) }
-    ensures { DecodedEach n n t representatives.now size words.now out.old out.new verdicts.new }
+    requires { Lined code.now.n sent size (length verdicts.old) words.now out.old × (code.now.certificate.terms < 1024) × (code.now.n ≤ 127) }
+    ensures { DecodedEach code.now.n sent code.now.t code.now.representatives.now size words.now out.old out.new verdicts.new }
 {
-    let long = 64 <= c.terms;
-    if s <= 6 {
-        with_smallest_tables(
-            n,
-            n,
-            s,
-            t,
-            c,
-            representatives,
-            size,
-            words,
-            out,
-            verdicts,
-            long,
-        );
-        return;
+    if code.s <= 6 {
+        with_tables::<320, 64>(code, sent, size, words, out, verdicts);
+    } else if code.s <= 8 {
+        with_tables::<1280, 256>(code, sent, size, words, out, verdicts);
+    } else {
+        with_tables::<20480, 4096>(code, sent, size, words, out, verdicts);
     }
-    if s <= 8 {
-        with_small_tables(
-            n,
-            n,
-            s,
-            t,
-            c,
-            representatives,
-            size,
-            words,
-            out,
-            verdicts,
-            long,
-        );
-        return;
-    }
-    with_large_tables(
-        n,
-        n,
-        s,
-        t,
-        c,
-        representatives,
-        size,
-        words,
-        out,
-        verdicts,
-        long,
-    );
+}
+
+// One word: its codeword within t places that has 0 in those that are not sent into out, and the number of changed places; or None, and out
+// as it was, where there is none.
+pub fn decode_word(code: &StatedCode, sent: usize, word: &[u8], out: &mut [u8]) -> Option<u8>
+    requires { Receivable code.now.n sent word.now out.old × (code.now.certificate.terms < 1024) × (code.now.n ≤ 127) }
+    ensures { Decoded code.now.n sent code.now.t code.now.representatives.now word.now out.old out.new (verdict_as result) }
+{
+    let mut verdicts = [None; 1];
+    decode_words(code, sent, word.len(), word, out, &mut verdicts);
+    verdicts[0]
 }

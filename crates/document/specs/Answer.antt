@@ -1,4 +1,4 @@
--- Answers by the paper's numbers, and what each case of an enum means in them.
+-- Answers by the paper's numbers, and what each value of the types of the answers means in them.
 --
 --   Answer                 a number, and values: 0 and what is returned, or a refusal's number and nothing
 --   returned, refused      the two kinds of answer; Conditions: conditions with the numbers of their refusals, in order
@@ -6,19 +6,14 @@
 --   settle_in, settle       what an entry answers, and what it leaves in the lent buffers: whichever they are, and a single one
 --   number_of               a refusal's number
 --   record_as, judged_as, replied_as, marked_as      what the answers of the entries mean
-use Rattle.std.specs.Prelude.{Bool, true, false, List, [], ◌∷◌, ℕ, zero, suc}
+use Rattle.std.specs.Prelude.{Bool, true, false, List, [], ◌∷◌, ℕ, zero, suc, Result, Ok, Err}
 use Rattle.document.specs.declared.types.Refusal.{Refusal}
 use Rattle.document.specs.declared.types.Refusal.TheVariants.{SheetLength, CodeLength, FieldDegree, Header, Representative}
 use Rattle.document.specs.declared.types.Refusal.TheVariants.{NoMessage}
 use Rattle.document.specs.declared.types.Refusal.TheVariants.{Range, CommonFactor, Period, Term, BufferLength, SpareBit}
 use Rattle.document.specs.declared.types.Refusal.TheVariants.{NoneNear, NoCodeword, NoneWithMarks, Shortening, InterleavingDepth}
 use Rattle.document.specs.declared.types.Record.{Record}
-use Rattle.document.specs.declared.types.Judged.{Judged}
-use Rattle.document.specs.declared.types.Judged.TheVariants.{Accepted, Refused as NotAccepted}
-use Rattle.document.specs.declared.types.Reply.{Reply}
-use Rattle.document.specs.declared.types.Reply.TheVariants.{Done, Refused}
-use Rattle.document.specs.declared.types.MarkedReply.{MarkedReply}
-use Rattle.document.specs.declared.types.MarkedReply.TheVariants.{Shown, Refused as MarkedRefused}
+use Rattle.document.specs.declared.types.Shown.{Shown}
 
 pub record Answer : Type 0 where
   pub number : ℕ
@@ -47,7 +42,7 @@ settle_in (suc r) values written old = (refused (suc r), old)
 abbrev pub settle : ℕ → List ℕ → List ℕ → List ℕ → Answer × List ℕ
 settle r values written old = settle_in r values written old
 
--- ---- the enums
+-- ---- the types of the answers
 abbrev pub number_of : Refusal → ℕ
 number_of SheetLength = 1
 number_of CodeLength = 2
@@ -70,15 +65,17 @@ number_of InterleavingDepth = 17
 abbrev pub record_as : Record → List ℕ
 record_as r = r.n ∷ r.k ∷ r.s ∷ r.working ∷ r.d ∷ r.t ∷ r.terms ∷ []
 
-abbrev pub judged_as : Judged → Answer
-judged_as (Accepted r) = returned (record_as r)
-judged_as (NotAccepted r) = refused (number_of r)
+-- the record, from judging
+abbrev pub judged_as : Result Record Refusal → Answer
+judged_as (Ok r) = returned (record_as r)
+judged_as (Err r) = refused (number_of r)
 
-abbrev pub replied_as : Reply → Answer
-replied_as (Done x) = returned (x ∷ [])
-replied_as (Refused r) = refused (number_of r)
+-- a number, from the other entries: of changed places for decoding a word, the listing's length for a card, else 0
+abbrev pub replied_as : Result ℕ Refusal → Answer
+replied_as (Ok x) = returned (x ∷ [])
+replied_as (Err r) = refused (number_of r)
 
 -- 2026-05: "One call tells e and which trial"
-abbrev pub marked_as : MarkedReply → Answer
-marked_as (Shown e trial) = returned (e ∷ trial ∷ [])
-marked_as (MarkedRefused r) = refused (number_of r)
+abbrev pub marked_as : Result Shown Refusal → Answer
+marked_as (Ok shown) = returned (shown.unmarked ∷ shown.trial ∷ [])
+marked_as (Err r) = refused (number_of r)

@@ -1,25 +1,25 @@
-// The answers of the entries. specs/Answer.antt gives the paper's number and values for each case.
+// The values and the refusals of the entries' answers. specs/Answer.antt gives the paper's number and values for each case.
 
-// Why something is refused, in the order of document 01's table "Refused, by number"; then the refusals of document 02.
-#[derive(Clone, Copy)]
+// Why something is refused, by its number: in the order of document 01's table "Refused, by number"; then the refusals of document 02.
+#[derive(Clone, Copy, Debug, PartialEq, Eq)]
 pub enum Refusal {
-    SheetLength,
-    CodeLength,
-    FieldDegree,
-    Header,
-    Representative,
-    NoMessage,
-    Range,
-    CommonFactor,
-    Period,
-    Term,
-    BufferLength,
-    SpareBit,
-    NoneNear,
-    NoCodeword,
-    NoneWithMarks,
-    Shortening,
-    InterleavingDepth,
+    SheetLength = 1,
+    CodeLength = 2,
+    FieldDegree = 3,
+    Header = 4,
+    Representative = 5,
+    NoMessage = 6,
+    Range = 7,
+    CommonFactor = 8,
+    Period = 9,
+    Term = 10,
+    BufferLength = 11,
+    SpareBit = 12,
+    NoneNear = 13,
+    NoCodeword = 14,
+    NoneWithMarks = 15,
+    Shortening = 16,
+    InterleavingDepth = 17,
 }
 
 // The record made of an accepted sheet: d, t and terms are those of its working certificate.
@@ -34,23 +34,10 @@ pub struct Record {
     pub terms: u16,
 }
 
+// What decoding with marked places shows: in how many unmarked places the codeword and the received word differ, and the trial whose
+// buffer holds the codeword. The trial is a number, 0 or 1, and no enum: C hands it to dunefork_shown_length, which takes any number.
 #[derive(Clone, Copy)]
-pub enum Judged {
-    Accepted(Record),
-    Refused(Refusal),
-}
-
-// What the other entries return: a number (of changed places for decoding a word, the listing's length for a card, else 0), or a refusal.
-#[derive(Clone, Copy)]
-pub enum Reply {
-    Done(usize),
-    Refused(Refusal),
-}
-
-// What decoding with marked places returns: in how many unmarked places the codeword shown and the received word differ, and the trial
-// whose buffer holds it; or a refusal.
-#[derive(Clone, Copy)]
-pub enum MarkedReply {
-    Shown { unmarked: usize, trial: usize },
-    Refused(Refusal),
+pub struct Shown {
+    pub unmarked: usize,
+    pub trial: usize,
 }

@@ -2,7 +2,7 @@
 --
 --   power_mod         an exponent may be replaced by its remainder, also under a factor
 --   masked, folded_lt, power_folded      or by the sum of its low and its high part
---   exponent_lt, exponent_cap      an exponent more than the product of two
+--   exponent_lt       an exponent more than the product of two
 --   looked, looked_next, looked_on      a power read off the table, that of the next place, and of the j-th after it
 --   powered_of        the powers alone
 use mathlib.Core.Path.{◌≡◌, sym, ap, ◌∙◌}
@@ -14,7 +14,6 @@ use lib.Bits.{bit_and, and_mask}
 use lib.ListN.{get_or}
 use lib.Pow.{pow_pos}
 use Rattle.field.specs.Field.{Degree, ω, field_power}
-use Rattle.field.proofs.Primitive.{Degree-bounds}
 use Rattle.field.proofs.Numbers.{power_round}
 use Rattle.field.specs.Tables.{Powered, Tables}
 
@@ -62,11 +61,6 @@ exponent_lt s l i a k h m =
     ap (λ (x : ℕ). (2 ^ s - 1) * x) one ∙ mul-add (2 ^ s - 1) (2 ^ s - 1) 1
     ∙ ap (λ (x : ℕ). (2 ^ s - 1) * (2 ^ s - 1) + x) (mul-one (2 ^ s - 1)) in
     omega arith
-
-pub exponent_cap : {s i a : ℕ} → Degree s → i < 2 ^ s - 1 → a < 2 ^ s - 1 → i * a ≤ 4095 * 4095
-exponent_cap {s} {i} {a} d h l =
-    let b : 2 ^ s ≤ 4096 = (Degree-bounds d).1 in
-    mul-le-mul {n₁ = i} {m₁ = a} {n₂ = 4095} {m₂ = 4095} (omega arith) (omega arith)
 
 -- the j-th place after is j steps on
 pub looked_on : {s y : ℕ} (l i a j : ℕ) {e : List ℕ} → Powered s e → y ≡ (l + i * a) % 2 ^ s + (l + i * a) / 2 ^ s → y < 2 * (2 ^ s - 1)

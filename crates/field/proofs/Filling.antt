@@ -5,7 +5,6 @@
 --   logs_none, logs_more         their logarithms so far
 --   filled                       the tables, when all powers are there and the entry of 0 is set
 --   fillable_kept                slices of the same lengths can be filled too
---   round_fillable               room for five rounds is room for one
 use mathlib.Core.Path.{◌≡◌, refl, sym, ap, ◌∙◌}
 use mathlib.Core.List.{List}
 use Prim.Native.Nat.{ℕ, ◌+◌, ◌-◌, ◌*◌, ◌^◌, ◌≤◌, ◌<◌}
@@ -15,7 +14,7 @@ use native.Mathlib.Omega.{arith}
 use lib.ListN.{length, get_or, set, length-set}
 use lib.Seq.{get_or-set_same, get_or-set_other}
 use Rattle.field.specs.Field.{Degree, ω, field_multiply, field_power, logarithm}
-use Rattle.field.specs.Tables.{RoundFillable, Fillable, Powers, Logs, Filled}
+use Rattle.field.specs.Tables.{Fillable, Powers, Logs, Filled}
 use Rattle.field.proofs.Primitive.{Degree-bounds}
 use Rattle.field.proofs.Numbers.{power_z, power_s, power_lt, power_round, power_inj, power_onto, logarithm_of, logarithm_zero}
 
@@ -90,6 +89,3 @@ filled {s} {n} {i} {g} {e'} {g'} r o l v w = record {
 
 pub fillable_kept : {s : ℕ} {e g e' g' : List ℕ} → length e' ≡ length e → length g' ≡ length g → Fillable s e g → Fillable s e' g'
 fillable_kept p q r = record { degree = r.degree; e_long = omega (arith, p, r.e_long); g_long = omega (arith, q, r.g_long) }
-
-pub round_fillable : {s : ℕ} {e g : List ℕ} → Fillable s e g → RoundFillable s e g
-round_fillable r = record { degree = r.degree; e_long = omega (arith, r.e_long); g_long = r.g_long }

@@ -5,13 +5,12 @@
 --   one_iff         2^k leaves 1 exactly when n divides 2^k - 1
 --   order_pos, order_divides, order_mod, order_least, order_lt      n divides 2^s - 1 for s = order_of_two n, for no smaller s above 0, and s < n
 --   count_start, count_on, count_more, count_lt, count_end      the count of the code
---   step_low, step_high, twice_high      a sum, and a double, by one subtraction
 use mathlib.Core.Path.{◌≡◌, refl, sym, ap, ◌∙◌, subst}
 use mathlib.Core.Logic.{◌≢◌, ◌↔◌}
 use mathlib.Core.Bool.{Bool}
 use Prim.Native.Nat.{ℕ, zero, suc, pred, ◌+◌, ◌-◌, ◌*◌, ◌/◌, ◌%◌, ◌^◌, ◌≤◌, ◌<◌, ◌∣◌}
 use native.Mathlib.Nat.{mod-lt, mod-eq_of_lt, mod-add-div, add-mul, add-mul-mod_self_left, mul_assoc, mul_comm}
-use native.Mathlib.Nat.{mul-add-mod_self_left, mul-mod_right, div-add-mod, dvd_of_mod-eq-zero, pow-suc, mod-eq-sub-mod, zero-mod}
+use native.Mathlib.Nat.{mul-add-mod_self_left, mul-mod_right, div-add-mod, dvd_of_mod-eq-zero, pow-suc, zero-mod}
 use native.Mathlib.Nat.{one-mul}
 use native.Mathlib.Decide.{dec_lt}
 use native.Mathlib.Numerals.{add-one}
@@ -161,11 +160,3 @@ unfolding order_of_two
 order_pos n = omega arith
 
 -- 2 x modulo n by one comparison
-pub step_low : (n x : ℕ) → x < n → x ≡ x % n
-step_low n x h = sym (mod-eq_of_lt h)
-
-pub step_high : (n a z : ℕ) → a < n → z < n → n ≤ a + z → a + z - n ≡ (a + z) % n
-step_high n a z h l m = sym (mod-eq-sub-mod m ∙ mod-eq_of_lt (omega arith))
-
-pub twice_high : (n x : ℕ) → x < n → n ≤ x * 2 → x * 2 - n ≡ x * 2 % n
-twice_high n x h l = sym (mod-eq-sub-mod l ∙ mod-eq_of_lt (omega arith))

@@ -1,7 +1,8 @@
 -- What shifts and masks of the code do to elements.
 --
---   double_set, double_clear      ω a by one shift, with and without the mask
---   multiply_start, multiply_set, multiply_clear, multiply_end      the product by the coefficients of a from i on
+--   times_set, times_clear, times_lt      x a by one shift, with and without the mask
+--   product_start, product_set, product_clear      the product by the coefficients of a from i on
+--   mask_degree, product_is, doubled_is      modulo the mask of a field
 --   power_halves, power_start, power_turn, power_end      a power by squares, r x^e turn by turn
 --   inverse_absent, quotient_absent, quotient_present      answers of inversion and division
 --   no_quotient, quotient_back    a quotient is absent only with the inverse; it times the divisor is the dividend
@@ -10,85 +11,93 @@ use mathlib.Core.Path.{◌≡◌, refl, sym, ap, ap₂, ◌∙◌, subst}
 use mathlib.Core.Logic.{◌≢◌}
 use mathlib.Core.List.{List, [], ◌∷◌, map}
 use Prim.Native.Nat.{ℕ, suc, ◌+◌, ◌-◌, ◌*◌, ◌/◌, ◌%◌, ◌^◌, ◌<◌}
-use native.Mathlib.Nat.{div-eq_of_lt, div-one}
+use native.Mathlib.Nat.{div-eq_of_lt}
 use native.Mathlib.Decide.{ℕ_discrete}
 use native.Mathlib.Omega.{arith}
 use lib.Bits.{bit_xor}
 use lib.ListN.{length, get_or}
 use lib.Pow.{shr-shr}
 use Rattle.algebra.proofs.Power.{pow, pow-add, mul_pow}
-use Rattle.field.specs.Mask.{◌⊕◌, remainder}
+use Rattle.field.specs.Mask.{◌⊕◌, clmul, remainder, HasDegree}
 use Rattle.field.specs.Field.{mask, Degree, ω, field_multiply, field_power, inverses, quotients}
 use Rattle.field.proofs.Xor.{digit_lt, ⊕-zero-r, sel}
 use Rattle.field.proofs.Horner.{horner, horner_step}
-use Rattle.field.proofs.MaskProduct.{clmul_two}
-use Rattle.field.proofs.Remainder.{xtime, xtime_add, remainder_small, remainder_dbl, remainder_clmul}
+use Rattle.field.proofs.MaskProduct.{clmul_two, clmul_zero_l}
+use Rattle.field.proofs.Remainder.{xtime, xtime_add, remainder_lt, remainder_zero, remainder_small, remainder_dbl, remainder_clmul}
 use Rattle.field.proofs.Primitive.{primitive}
 use Rattle.field.proofs.Elements.{GF, el, el_mul, el_inj}
-use Rattle.field.proofs.Numbers.{multiply_lt, multiply_comm, multiply_assoc, multiply_one, zero_multiply, product_lt, power_lt}
+use Rattle.field.proofs.Numbers.{multiply_comm, multiply_assoc, multiply_one, product_lt, power_lt}
 use Rattle.field.proofs.Numbers.{power_add, el_power, power_s, power_z, inverses_zero, inverses_of, inverse_is}
 
 sel_clear : (x b : ℕ) → x < 2 → x ≢ 1 → sel x b ≡ 0
 sel_clear x b h k = let e : x ≡ 0 = omega arith in ap (λ (y : ℕ). sel y b) e
 
-module _ {s : ℕ} (d : Degree s) where
-  by_x : (a : ℕ) → a < 2 ^ s → field_multiply s ω a ≡ xtime s (mask s) a
-  unfolding field_multiply
-  by_x a h =
-      let P = primitive d in
-      ap (remainder s (mask s)) (clmul_two a) ∙ remainder_dbl s (mask s) P.pos P.deg a
-      ∙ ap (xtime s (mask s)) (remainder_small s (mask s) P.pos P.deg a h)
+module _ {s f : ℕ} (m : HasDegree s f) where
+  by_x : (a : ℕ) → a < 2 ^ s → remainder s f (a * 2) ≡ xtime s f a
+  by_x a h = remainder_dbl s f m.lo m.top a ∙ ap (xtime s f) (remainder_small s f m.lo m.top a h)
 
-  pub double_set : {m a : ℕ} → m ≡ mask s → a < 2 ^ s → a * 2 / 2 ^ s % 2 ≡ 1 → bit_xor (a * 2) m ≡ field_multiply s ω a
+  pub times_set : (a : ℕ) → a < 2 ^ s → a * 2 / 2 ^ s % 2 ≡ 1 → bit_xor (a * 2) f ≡ remainder s f (a * 2)
   unfolding xtime ◌⊕◌
-  double_set {m} {a} q h e = ap (bit_xor (a * 2)) q ∙ sym (by_x a h ∙ ap (λ (x : ℕ). a * 2 ⊕ sel x (mask s)) e)
+  times_set a h e = sym (by_x a h ∙ ap (λ (x : ℕ). a * 2 ⊕ sel x f) e)
 
-  pub double_clear : {a : ℕ} → a < 2 ^ s → a * 2 / 2 ^ s % 2 ≢ 1 → a * 2 ≡ field_multiply s ω a
+  pub times_clear : (a : ℕ) → a < 2 ^ s → a * 2 / 2 ^ s % 2 ≢ 1 → a * 2 ≡ remainder s f (a * 2)
   unfolding xtime
-  double_clear {a} h n =
+  times_clear a h n =
       sym
-      (by_x a h ∙ ap (λ (x : ℕ). a * 2 ⊕ x) (sel_clear (a * 2 / 2 ^ s % 2) (mask s) (digit_lt (a * 2 / 2 ^ s)) n)
+      (by_x a h ∙ ap (λ (x : ℕ). a * 2 ⊕ x) (sel_clear (a * 2 / 2 ^ s % 2) f (digit_lt (a * 2 / 2 ^ s)) n)
       ∙ ⊕-zero-r (a * 2))
 
+  pub times_lt : {x : ℕ} (a : ℕ) → x ≡ remainder s f a → x < 2 ^ s
+  times_lt a e = subst (λ (y : ℕ). y < 2 ^ s) (sym e) (remainder_lt s f m.lo m.top a)
+
   -- ---- the product, by the lowest coefficient of a: (x h + c) b = x (h b) + c b
-  lowest : (a b : ℕ) → b < 2 ^ s → field_multiply s a b ≡ field_multiply s ω (field_multiply s (a / 2) b) ⊕ sel (a % 2) b
-  unfolding field_multiply
+  lowest : (a b : ℕ) → b < 2 ^ s → remainder s f (clmul a b) ≡ remainder s f (remainder s f (clmul (a / 2) b) * 2) ⊕ sel (a % 2) b
   lowest a b h =
-      let P = primitive d in
-      let by_horner : (a : ℕ) → field_multiply s a b ≡ horner (xtime s (mask s)) a b =
-      λ a. remainder_clmul s (mask s) P.pos P.deg a b
-      ∙ ap (horner (xtime s (mask s)) a) (remainder_small s (mask s) P.pos P.deg b h) in
-      by_horner a ∙ horner_step (xtime s (mask s)) (xtime_add s (mask s)) a b
-      ∙ ap (λ (x : ℕ). xtime s (mask s) x ⊕ sel (a % 2) b) (sym (by_horner (a / 2)))
-      ∙ ap (λ (x : ℕ). x ⊕ sel (a % 2) b) (sym (by_x (field_multiply s (a / 2) b) (multiply_lt d (a / 2) b)))
+      let by_horner : (a : ℕ) → remainder s f (clmul a b) ≡ horner (xtime s f) a b =
+      λ a. remainder_clmul s f m.lo m.top a b ∙ ap (horner (xtime s f) a) (remainder_small s f m.lo m.top b h) in
+      by_horner a ∙ horner_step (xtime s f) (xtime_add s f) a b
+      ∙ ap (λ (x : ℕ). xtime s f x ⊕ sel (a % 2) b) (sym (by_horner (a / 2)))
+      ∙ ap (λ (x : ℕ). x ⊕ sel (a % 2) b) (sym (by_x (remainder s f (clmul (a / 2) b)) (times_lt (clmul (a / 2) b) refl)))
 
-  pub multiply_start : (a b : ℕ) → a < 2 ^ s → 0 ≡ field_multiply s (a / 2 ^ s) b
-  multiply_start a b h = sym (ap (λ (x : ℕ). field_multiply s x b) (div-eq_of_lt h) ∙ zero_multiply d b)
+  pub product_start : (a b : ℕ) → a < 2 ^ s → 0 ≡ remainder s f (clmul (a / 2 ^ s) b)
+  product_start a b h =
+      sym (ap (λ (x : ℕ). remainder s f (clmul x b)) (div-eq_of_lt h) ∙ ap (remainder s f) (clmul_zero_l b) ∙ remainder_zero s f m.lo m.top)
 
-  -- r is the product by the coefficients from i + 1 on, q is ω r
-  next : (a b r q i : ℕ) → b < 2 ^ s → 0 < i → r ≡ field_multiply s (a / 2 ^ i) b → q ≡ field_multiply s ω r
-      → q ⊕ sel (a / 2 ^ (i - 1) % 2) b ≡ field_multiply s (a / 2 ^ (i - 1)) b
-  next a b r q i h p e f =
+  -- r is the product by the coefficients from i + 1 on, q is x r
+  next : (a b r q i : ℕ) → b < 2 ^ s → 0 < i → r ≡ remainder s f (clmul (a / 2 ^ i) b) → q ≡ remainder s f (r * 2)
+      → q ⊕ sel (a / 2 ^ (i - 1) % 2) b ≡ remainder s f (clmul (a / 2 ^ (i - 1)) b)
+  next a b r q i h p e g =
       let k : i ≡ i - 1 + 1 = omega arith in
       ap (λ (x : ℕ). x ⊕ sel (a / 2 ^ (i - 1) % 2) b)
-      (f ∙ ap (field_multiply s ω)
-      (e ∙ ap (λ (x : ℕ). field_multiply s x b) (ap (λ (j : ℕ). a / 2 ^ j) k ∙ sym (shr-shr a (i - 1) 1))))
+      (g ∙ ap (λ (x : ℕ). remainder s f (x * 2))
+      (e ∙ ap (λ (x : ℕ). remainder s f (clmul x b)) (ap (λ (j : ℕ). a / 2 ^ j) k ∙ sym (shr-shr a (i - 1) 1))))
       ∙ sym (lowest (a / 2 ^ (i - 1)) b h)
 
-  pub multiply_set : (a b r q i : ℕ) → b < 2 ^ s → 0 < i → r ≡ field_multiply s (a / 2 ^ i) b → q ≡ field_multiply s ω r
-      → a / 2 ^ (i - 1) % 2 ≡ 1 → bit_xor q b ≡ field_multiply s (a / 2 ^ (i - 1)) b
+  pub product_set : (a b r q i : ℕ) → b < 2 ^ s → 0 < i → r ≡ remainder s f (clmul (a / 2 ^ i) b) → q ≡ remainder s f (r * 2)
+      → a / 2 ^ (i - 1) % 2 ≡ 1 → bit_xor q b ≡ remainder s f (clmul (a / 2 ^ (i - 1)) b)
   unfolding ◌⊕◌
-  multiply_set a b r q i h p e f t = sym (ap (λ (x : ℕ). q ⊕ sel x b) t) ∙ next a b r q i h p e f
+  product_set a b r q i h p e g t = sym (ap (λ (x : ℕ). q ⊕ sel x b) t) ∙ next a b r q i h p e g
 
-  pub multiply_clear : (a b r q i : ℕ) → b < 2 ^ s → 0 < i → r ≡ field_multiply s (a / 2 ^ i) b → q ≡ field_multiply s ω r
-      → a / 2 ^ (i - 1) % 2 ≢ 1 → q ≡ field_multiply s (a / 2 ^ (i - 1)) b
-  multiply_clear a b r q i h p e f t =
+  pub product_clear : (a b r q i : ℕ) → b < 2 ^ s → 0 < i → r ≡ remainder s f (clmul (a / 2 ^ i) b) → q ≡ remainder s f (r * 2)
+      → a / 2 ^ (i - 1) % 2 ≢ 1 → q ≡ remainder s f (clmul (a / 2 ^ (i - 1)) b)
+  product_clear a b r q i h p e g t =
       sym
       (ap (λ (x : ℕ). q ⊕ x) (sel_clear (a / 2 ^ (i - 1) % 2) b (digit_lt (a / 2 ^ (i - 1))) t) ∙ ⊕-zero-r q)
-      ∙ next a b r q i h p e f
+      ∙ next a b r q i h p e g
 
-  pub multiply_end : (a b r i : ℕ) → i ≡ 0 → r ≡ field_multiply s (a / 2 ^ i) b → r ≡ field_multiply s a b
-  multiply_end a b r i z e = e ∙ ap (λ (x : ℕ). field_multiply s x b) (ap (λ (k : ℕ). a / 2 ^ k) z ∙ div-one a)
+-- a product of the field is that modulo its mask
+pub product_is : (s : ℕ) {m : ℕ} (a b : ℕ) → m ≡ mask s → remainder s m (clmul a b) ≡ field_multiply s a b
+unfolding field_multiply
+product_is s a b e = ap (λ (x : ℕ). remainder s x (clmul a b)) e
+
+-- ω a is x a
+pub doubled_is : (s : ℕ) {m : ℕ} (a : ℕ) → m ≡ mask s → remainder s m (a * 2) ≡ field_multiply s ω a
+unfolding field_multiply
+doubled_is s a e = ap (λ (x : ℕ). remainder s x (a * 2)) e ∙ ap (remainder s (mask s)) (sym (clmul_two a))
+
+module _ {s : ℕ} (d : Degree s) where
+  pub mask_degree : {m : ℕ} → m ≡ mask s → HasDegree s m
+  mask_degree e = let P = primitive d in record { lo = P.pos; hi = omega (arith, d.hi); top = ap (λ (x : ℕ). x / 2 ^ s) e ∙ P.deg }
 
   -- ---- a power by a square
   square : (x k : ℕ) → field_power s (field_multiply s x x) k ≡ field_power s x (k + k)

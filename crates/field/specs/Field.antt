@@ -10,12 +10,10 @@
 --   logarithm s a        the exponent that gives a as a power of ω
 --   inverses s a         all elements whose product with a is 1: one, or none for 0
 --   quotients s a b      a divided by b: one element, or none where b is 0
---   values_of             what each case of the answer `Quotient` holds
-use Rattle.std.specs.Prelude.{◌≡◌, List, [], ◌∷◌, map, ℕ, zero, suc, ◌-◌, ◌/◌, ◌%◌, ◌^◌, ◌≤◌, eqb, get_or}
+--   values_of             what an answer holds: one element, or none
+use Rattle.std.specs.Prelude.{◌≡◌, Option, Some, None, List, [], ◌∷◌, map, ℕ, zero, suc, ◌-◌, ◌/◌, ◌%◌, ◌^◌, ◌≤◌, eqb, get_or}
 use Rattle.field.specs.Search.{least, up_to, keep}
 use Rattle.field.specs.Mask.{clmul, remainder}
-use Rattle.field.specs.declared.types.Quotient.{Quotient}
-use Rattle.field.specs.declared.types.Quotient.TheVariants.{Of, Absent}
 
 -- "The smallest primitive polynomial of that degree": the degrees 2 to 12.
 unfoldable pub masks : List ℕ
@@ -62,6 +60,6 @@ inverses s a = keep (λ x. eqb (field_multiply s a x) 1) (up_to (2 ^ s))
 unfoldable pub quotients : ℕ → ℕ → ℕ → List ℕ
 quotients s a b = map (field_multiply s a) (inverses s b)
 
-abbrev pub values_of : Quotient → List ℕ
-values_of (Of x) = x ∷ []
-values_of Absent = []
+abbrev pub values_of : Option ℕ → List ℕ
+values_of (Some x) = x ∷ []
+values_of None = []

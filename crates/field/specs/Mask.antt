@@ -6,7 +6,8 @@
 --   size a             how many coefficients a has: one more than its degree, and 0 for the mask 0
 --   clmul a b          the product: the sum of x^i b over the i where a has a 1
 --   remainder s p a    the remainder of a by a mask p of degree s, by long division
-use Rattle.std.specs.Prelude.{ℕ, zero, suc, ◌+◌, ◌*◌, ◌/◌, ◌%◌, ◌^◌, ltb}
+--   HasDegree s p      p is a mask of degree s, 1 to 15
+use Rattle.std.specs.Prelude.{◌≡◌, ◌≤◌, ℕ, zero, suc, ◌+◌, ◌*◌, ◌/◌, ◌%◌, ◌^◌, ltb}
 use Rattle.std.specs.Int.Bits.{bit_xor}
 use Rattle.field.specs.Search.{least}
 
@@ -35,3 +36,8 @@ divide_down s p (suc i) a = divide_down s p i (a ⊕ coefficient (s + i) a * (p 
 
 unfoldable pub remainder : ℕ → ℕ → ℕ → ℕ
 remainder s p a = divide_down s p (size a) a
+
+pub record HasDegree (s p : ℕ) : Type 0 where
+  pub lo : 1 ≤ s
+  pub hi : s ≤ 15
+  pub top : p / 2 ^ s ≡ 1

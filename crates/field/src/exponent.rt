@@ -1,9 +1,9 @@
 // Powers of ω whose exponent is a product: the table is read with no division.
 ghost use Rattle.std.specs.Prelude.{◌≡◌, ◌+◌, ◌-◌, ◌*◌, ◌/◌, ◌%◌, ◌^◌, ◌<◌};
 ghost use Rattle.field.specs.Field.{Degree, ω, field_power};
-ghost use Rattle.field.specs.Tables.{Powered};
 
 use crate::product::order;
+use crate::tables::PowerTable;
 
 // An exponent with its high part added to the low one: ω has order 2^s - 1, so the power is the same.
 pub fn fold(y: usize, s: usize) -> usize
@@ -18,14 +18,15 @@ pub fn index(l: u16, a: u16, i: usize, s: usize) -> usize
     requires { Degree s × (l < 2 ^ s - 1) × (a < 2 ^ s - 1) × (i < 2 ^ s - 1) }
     ensures { (result ≡ (l + i * a) % 2 ^ s + (l + i * a) / 2 ^ s) × (result < 2 * (2 ^ s - 1)) }
 {
-    fold((l as usize) + i * (a as usize), s)
+    fold(usize::from(l) + i * usize::from(a), s)
 }
 
-// ω^(l + i a)
-pub fn term(l: u16, a: u16, i: usize, s: usize, powers: &[u16]) -> u16
-    requires { Powered s powers.now × (l < 2 ^ s - 1) × (a < 2 ^ s - 1) × (i < 2 ^ s - 1) }
-    ensures { result ≡ field_power s ω (l + i * a) }
-{
-    let y = index(l, a, i, s);
-    powers[y]
+impl<'a> PowerTable<'a> {
+    // ω^(l + i a)
+    pub fn term(&self, l: u16, a: u16, i: usize) -> u16
+        requires { (l < 2 ^ self.now.s - 1) × (a < 2 ^ self.now.s - 1) × (i < 2 ^ self.now.s - 1) }
+        ensures { result ≡ field_power self.now.s ω (l + i * a) }
+    {
+        self.powers[index(l, a, i, self.s)]
+    }
 }

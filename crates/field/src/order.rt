@@ -29,7 +29,7 @@ pub fn order_of_two(n: usize) -> usize
     let mut x: usize = 2;
     while x != 1 {
         x = twice(n, x);
-        s = s + 1;
+        s += 1;
     }
     s
 }

@@ -23,7 +23,7 @@ pub fn power(s: usize, a: u16, k: usize) -> u16
     while e > 0 {
         r = with_factor(s, r, x, e);
         x = multiply(s, x, x);
-        e = e / 2;
+        e /= 2;
     }
     r
 }

@@ -2,12 +2,33 @@
 ghost use Rattle.std.specs.Prelude.{◌≡◌, ◌^◌, ◌<◌};
 ghost use Rattle.field.specs.Field.{Degree};
 
-// h starts at 0. The modulus is the largest prime below 2^32, so that no product wraps.
-pub fn add(h: u64, x: u16) -> u64
-    requires { h < 4294967291 }
-    ensures { result < 4294967291 }
-{
-    (h * 1000003 + x as u64) % 4294967291
+use std::fmt;
+
+// The modulus is the largest prime below 2^32, so that no product wraps.
+#[derive(Clone, Copy)]
+pub struct Checksum {
+    value: u64,
+    ghost below_modulus: { value < 4294967291 },
+}
+
+impl Checksum {
+    // Of no values.
+    pub fn new() -> Checksum {
+        Checksum { value: 0 }
+    }
+
+    // With one value more.
+    pub fn with(self, x: u16) -> Checksum {
+        Checksum {
+            value: (self.value * 1000003 + u64::from(x)) % 4294967291,
+        }
+    }
+}
+
+impl fmt::Display for Checksum {
+    fn fmt<W: fmt::Write>(&self, f: &mut fmt::Formatter<W>) -> fmt::Result {
+        self.value.fmt(f)
+    }
 }
 
 pub fn size(s: usize) -> u16

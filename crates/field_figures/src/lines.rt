@@ -1,27 +1,13 @@
-// The lines of figures.
-ghost use Rattle.std.specs.Prelude.{◌<◌};
+// The lines of figures. `Degree s` stands in the contracts as in the field's product.rt.
 ghost use Rattle.field.specs.Field.{Degree};
 
-use crate::checksum::add;
+use crate::checksum::Checksum;
 use crate::products::Sums;
 use crate::{elements, products, walk};
 use field::order::order_of_two;
 use field::product::mask;
+use field::tables::FieldTables;
 use std::io;
-use std::io::Write;
-
-fn number(rt: &impl Print, label: &[u8], n: u64) -> io::Result<()> {
-    io::writer(rt).write_all(label)?;
-    print!(rt; "{n}")
-}
-
-fn begin(rt: &impl Print, s: usize) -> io::Result<()> {
-    number(rt, b"degree ", s as u64)
-}
-
-fn end(rt: &impl Print) -> io::Result<()> {
-    print!(rt; "\n")
-}
 
 // All products where there are few enough, else those of the sample.
 fn product_sums(s: usize) -> Sums
@@ -29,30 +15,29 @@ fn product_sums(s: usize) -> Sums
 {
     let mut powers = [0u16; 20475];
     let mut logs = [0u16; 4096];
-    field::tables::fill(s, &mut powers, &mut logs);
+    let tables = FieldTables::fill(s, &mut powers, &mut logs);
     if s <= 8 {
-        products::all(s, &powers, &logs)
+        products::all(&tables)
     } else {
-        products::sample(s, &powers, &logs)
+        products::sample(&tables)
     }
 }
 
 pub fn product_line(rt: &impl Print, s: usize) -> io::Result<()>
     requires { Degree s }
 {
-    let sums = product_sums(s);
-    begin(rt, s)?;
-    number(rt, b" mask ", mask(s) as u64)?;
-    number(rt, b" products ", sums.shifts)?;
-    number(rt, b" tables ", sums.tables)?;
-    end(rt)
+    let Sums { shifts, tables } = product_sums(s);
+    println!(rt;
+        "degree {s} mask {} products {shifts} tables {tables}",
+        mask(s)
+    )
 }
 
 #[derive(Clone, Copy)]
 struct TableSums {
-    powers: u64,
-    logs: u64,
-    inverses: u64,
+    powers: Checksum,
+    logs: Checksum,
+    inverses: Checksum,
 }
 
 fn table_sums(s: usize) -> TableSums
@@ -60,24 +45,24 @@ fn table_sums(s: usize) -> TableSums
 {
     let mut powers = [0u16; 20475];
     let mut logs = [0u16; 4096];
-    field::tables::fill(s, &mut powers, &mut logs);
+    let tables = FieldTables::fill(s, &mut powers, &mut logs);
     TableSums {
-        powers: elements::powers(s, &powers),
-        logs: elements::logs(s, &powers, &logs),
-        inverses: elements::inverses(s, &powers, &logs),
+        powers: elements::powers(&tables),
+        logs: elements::logs(&tables),
+        inverses: elements::inverses(&tables),
     }
 }
 
 pub fn element_line(rt: &impl Print, s: usize) -> io::Result<()>
     requires { Degree s }
 {
-    let sums = table_sums(s);
-    begin(rt, s)?;
-    number(rt, b" powers ", sums.powers)?;
-    number(rt, b" logs ", sums.logs)?;
-    number(rt, b" inverses ", sums.inverses)?;
-    number(rt, b" order ", elements::order(s))?;
-    end(rt)
+    let TableSums {
+        powers,
+        logs,
+        inverses,
+    } = table_sums(s);
+    let order = elements::order(s);
+    println!(rt; "degree {s} powers {powers} logs {logs} inverses {inverses} order {order}")
 }
 
 pub fn polynomial_line(rt: &impl Print, s: usize) -> io::Result<()>
@@ -85,27 +70,23 @@ pub fn polynomial_line(rt: &impl Print, s: usize) -> io::Result<()>
 {
     let m = mask(s);
     let counts = walk::below(s, m);
-    begin(rt, s)?;
-    number(rt, b" smaller ", counts.masks)?;
-    number(rt, b" primitive ", counts.primitive)?;
-    number(rt, b" own ", walk::primitive(s, m))?;
-    end(rt)
+    let own = u64::from(walk::primitive(s, m));
+    println!(rt;
+        "degree {s} smaller {} primitive {} own {own}",
+        counts.masks, counts.primitive
+    )
 }
 
 // The order of 2 for every odd length from 3 to 127.
-fn length_sum() -> u64
-    ensures { result < 4294967291 }
-{
-    let mut h = 0u64;
-    let mut n = 3usize;
-    while n < 128 {
-        h = add(h, order_of_two(n) as u16);
-        n = n + 2;
+#[tactic(auto, using(field::proofs::OrderOfTwo::order_lt))]
+fn length_sum() -> Checksum {
+    let mut sum = Checksum::new();
+    for i in 1..64 {
+        sum = sum.with(order_of_two(2 * i + 1) as u16);
     }
-    h
+    sum
 }
 
 pub fn length_line(rt: &impl Print) -> io::Result<()> {
-    number(rt, b"lengths ", length_sum())?;
-    end(rt)
+    println!(rt; "lengths {}", length_sum())
 }

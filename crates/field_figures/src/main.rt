@@ -17,38 +17,24 @@ mod walk;
 // the lines of figures
 mod lines;
 
+ghost use Rattle.std.specs.Prelude.{ℕ};
+ghost use Rattle.field.specs.Field.{Degree};
+
 use std::io;
 
 fn main(rt: HostRuntime) -> io::Result<()> {
-    product_lines(&rt)?;
-    element_lines(&rt)?;
-    polynomial_lines(&rt)?;
+    degree_lines(|s| lines::product_line(&rt, s))?;
+    degree_lines(|s| lines::element_line(&rt, s))?;
+    degree_lines(|s| lines::polynomial_line(&rt, s))?;
     lines::length_line(&rt)
 }
 
-fn product_lines(rt: &impl Print) -> io::Result<()> {
-    let mut s = 2usize;
-    while s <= 12 {
-        lines::product_line(rt, s)?;
-        s = s + 1;
-    }
-    Ok(())
-}
-
-fn element_lines(rt: &impl Print) -> io::Result<()> {
-    let mut s = 2usize;
-    while s <= 12 {
-        lines::element_line(rt, s)?;
-        s = s + 1;
-    }
-    Ok(())
-}
-
-fn polynomial_lines(rt: &impl Print) -> io::Result<()> {
-    let mut s = 2usize;
-    while s <= 12 {
-        lines::polynomial_line(rt, s)?;
-        s = s + 1;
+// A line for every degree of the table.
+fn degree_lines<F: Fn(usize) -> io::Result<()>>(line: F) -> io::Result<()>
+    requires { (s : ℕ) → Degree s → F.pre line s }
+{
+    for s in 2..=12 {
+        line(s)?;
     }
     Ok(())
 }

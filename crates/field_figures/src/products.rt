@@ -2,91 +2,73 @@
 // those of a sample.
 ghost use Rattle.std.specs.Prelude.{◌^◌, ◌<◌};
 ghost use Rattle.field.specs.Field.{Degree};
-ghost use Rattle.field.specs.Tables.{Tables};
-ghost use Rattle.field_figures.specs.Sums.{BelowModulus};
 
-use crate::checksum::{add, size};
+use crate::checksum::{Checksum, size};
+use field::tables::FieldTables;
 
 #[derive(Clone, Copy)]
 pub struct Sums {
-    pub shifts: u64,
-    pub tables: u64,
+    pub shifts: Checksum,
+    pub tables: Checksum,
 }
 
-fn with_product(s: usize, a: u16, b: u16, h: Sums, powers: &[u16], logs: &[u16]) -> Sums
-    requires { Tables s powers.now logs.now × (a < 2 ^ s) × (b < 2 ^ s) × BelowModulus h }
-    ensures { BelowModulus result }
+// Of no products.
+fn none() -> Sums {
+    Sums {
+        shifts: Checksum::new(),
+        tables: Checksum::new(),
+    }
+}
+
+fn with_product(tables: &FieldTables, a: u16, b: u16, sums: Sums) -> Sums
+    requires { (a < 2 ^ tables.now.s) × (b < 2 ^ tables.now.s) }
 {
     Sums {
-        shifts: add(h.shifts, field::product::multiply(s, a, b)),
-        tables: add(h.tables, field::logarithm::multiply(s, a, b, powers, logs)),
+        shifts: sums.shifts.with(field::product::multiply(tables.s, a, b)),
+        tables: sums.tables.with(tables.multiply(a, b)),
     }
 }
 
-// The products of a with every element, rising.
-fn row(s: usize, a: u16, h: Sums, powers: &[u16], logs: &[u16]) -> Sums
-    requires { Tables s powers.now logs.now × (a < 2 ^ s) × BelowModulus h }
-    ensures { BelowModulus result }
+// With the products of a with every element, rising.
+fn with_row(tables: &FieldTables, a: u16, mut sums: Sums) -> Sums
+    requires { a < 2 ^ tables.now.s }
 {
-    let end = size(s);
-    let mut sums = h;
-    let mut b = 0u16;
-    while b < end {
-        sums = with_product(s, a, b, sums, powers, logs);
-        b = b + 1;
+    for b in 0..size(tables.s) {
+        sums = with_product(tables, a, b, sums);
     }
     sums
 }
 
-pub fn all(s: usize, powers: &[u16], logs: &[u16]) -> Sums
-    requires { Tables s powers.now logs.now }
-    ensures { BelowModulus result }
-{
-    let end = size(s);
-    let mut sums = Sums {
-        shifts: 0,
-        tables: 0,
-    };
-    let mut a = 0u16;
-    while a < end {
-        sums = row(s, a, sums, powers, logs);
-        a = a + 1;
+pub fn all(tables: &FieldTables) -> Sums {
+    let mut sums = none();
+    for a in 0..size(tables.s) {
+        sums = with_row(tables, a, sums);
     }
     sums
 }
 
-// The sample's generator, linear and congruential modulo 2^32. Its state starts at 1.
-fn next(x: u64) -> u64
-    requires { x < 4294967296 }
-    ensures { result < 4294967296 }
-{
-    (x * 1664525 + 1013904223) % 4294967296
+// The sample's generator, linear and congruential modulo 2^32. Its state starts at 1. bench_decode has the same `next`: a crate for
+// one line would be no plainer.
+fn next(x: u32) -> u32 {
+    x.wrapping_mul(1664525).wrapping_add(1013904223)
 }
 
 // The element of a state: the lowest s bits of its upper half, since the lower bits of such a state repeat early.
-fn element(s: usize, x: u64) -> u16
+fn element(s: usize, x: u32) -> u16
     requires { Degree s }
     ensures { result < 2 ^ s }
 {
-    (x / 65536 % size(s) as u64) as u16
+    (x >> 16) as u16 % size(s)
 }
 
 // 4,096 products: a from one state, b from the next, and so on.
-pub fn sample(s: usize, powers: &[u16], logs: &[u16]) -> Sums
-    requires { Tables s powers.now logs.now }
-    ensures { BelowModulus result }
-{
-    let mut sums = Sums {
-        shifts: 0,
-        tables: 0,
-    };
-    let mut x = 1u64;
-    let mut i = 0usize;
-    while i < 4096 {
+pub fn sample(tables: &FieldTables) -> Sums {
+    let mut sums = none();
+    let mut x = 1;
+    for _ in 0..4096 {
         let y = next(x);
         x = next(y);
-        sums = with_product(s, element(s, y), element(s, x), sums, powers, logs);
-        i = i + 1;
+        sums = with_product(tables, element(tables.s, y), element(tables.s, x), sums);
     }
     sums
 }

@@ -10,7 +10,8 @@ pub struct Counts {
     pub primitive: u64,
 }
 
-// The next power of x: a shift, and the mask taken off where the coefficient of x^s came up.
+// The next power of x: a shift, and the mask taken off where the coefficient of x^s came up. The field's `times_x` does the same, and is not
+// called here: the walk is what the table's masks are held to.
 fn step(s: usize, m: u16, x: u16) -> u16
     requires { s < 16 }
 {
@@ -18,22 +19,18 @@ fn step(s: usize, m: u16, x: u16) -> u16
     if (d >> s) & 1 == 1 { d ^ m } else { d }
 }
 
-// 1 where the powers of x come back to 1 after 2^s - 1 steps and not before, and else 0.
-pub fn primitive(s: usize, m: u16) -> u64
+// Whether the powers of x come back to 1 after 2^s - 1 steps and not before.
+pub fn primitive(s: usize, m: u16) -> bool
     requires { Degree s }
-    ensures { result ≤ 1 }
 {
-    let last = size(s) - 1;
     let mut x = step(s, m, 1);
-    let mut i = 1u16;
-    while i < last {
+    for _ in 1..size(s) - 1 {
         if x == 1 {
-            return 0;
+            return false;
         }
         x = step(s, m, x);
-        i = i + 1;
     }
-    if x == 1 { 1 } else { 0 }
+    x == 1
 }
 
 // The masks of degree s below a given one, and how many of them are primitive.
@@ -41,16 +38,13 @@ pub fn below(s: usize, end: u16) -> Counts
     requires { Degree s }
     ensures { (result.masks ≡ end - 2 ^ s) × (result.primitive ≤ result.masks) }
 {
-    let mut m = size(s);
-    let mut masks = 0u64;
+    let first = size(s);
     let mut found = 0u64;
-    while m < end {
-        found = found + primitive(s, m);
-        masks = masks + 1;
-        m = m + 1;
+    for m in first..end {
+        found += u64::from(primitive(s, m));
     }
     Counts {
-        masks: masks,
+        masks: u64::from(end.saturating_sub(first)),
         primitive: found,
     }
 }

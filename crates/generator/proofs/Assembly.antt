@@ -1,13 +1,11 @@
 -- The generator, coset by coset.
 --
---   length_at, degree_at, coset_at      what Lengths says in the words of the theory, of the field and of a coset
+--   length_at, coset_at        what Lengths says in the words of the theory and of a coset
 --   generator_lt, small_mask      a generator has one coefficient more than its degree says, and so has a factor
---   one_round, no_round        the tables of one round, filled or not
 --   reps_apart, one_more       one representative more, from the last down: the generator times the factor of its coset
---   Making, making_start, making_more, making_end      the product, representative by representative
+--   Making, making_start, making_more      the product, representative by representative
 --   multiplied_one             in place of 1, the generator itself
 use mathlib.Core.Path.{◌≡◌, refl, sym, ap, ◌∙◌, subst}
-use mathlib.Core.Bool.{true, false}
 use mathlib.Core.List.{List, [], ◌∷◌}
 use Prim.Native.Nat.{ℕ, zero, suc, ◌+◌, ◌-◌, ◌*◌, ◌%◌, ◌^◌, ◌≤◌, ◌<◌}
 use native.Mathlib.Nat.{mod-eq_of_lt, lt_of_lt_of_le}
@@ -18,19 +16,16 @@ use lib.Pow.{pow-lt, pow_mono}
 use lib.Seq.{drop-cons, drop-length}
 use Rattle.algebra.proofs.Lists.{In, here, there}
 use Rattle.field.specs.Mask.{clmul}
-use Rattle.field.specs.Field.{Degree}
-use Rattle.field.specs.Tables.{RoundFillable, Powers, Logs}
-use Rattle.field.proofs.Search.{true_ne_false}
 use Rattle.field.proofs.MaskProduct.{clmul_one_l, clmul_one_r}
 use Rattle.cyclic.proofs.Lift.{lt_of_degree}
 use Rattle.document.specs.Coset.{smallest, defining_set, dimension}
 use Rattle.document.specs.Generator.{generator}
 use Rattle.document.proofs.Sane.{set_size, generator_nil}
-use Rattle.document.proofs.Theory.{Length, degree}
+use Rattle.document.proofs.Theory.{Length}
 use Rattle.document.proofs.GeneratorIs.{generator_degree}
 use Rattle.document.proofs.Join.{CosetApart, apart_of, generator_join}
 use Rattle.binary.specs.Packed.{packed, places_in}
-use Rattle.generator.specs.Coset.{CosetOf, RoundWhere, Factored}
+use Rattle.generator.specs.Coset.{CosetOf, Factored}
 use Rattle.generator.specs.Building.{Rising, Lengths, Multiplied}
 use Rattle.generator.proofs.CosetWalk.{length_stated}
 use Rattle.generator.proofs.LowPlaces.{clmul_on}
@@ -38,9 +33,6 @@ use Rattle.generator.proofs.LowPlaces.{clmul_on}
 -- ---- lengths
 pub length_at : {n s : ℕ} → Lengths n s → Length n
 length_at l = record { odd = l.odd; most = omega (arith, l.s_is, l.small) }
-
-pub degree_at : {n s : ℕ} → Lengths n s → Degree s
-degree_at l = subst Degree (sym l.s_is) (degree (length_at l))
 
 pub coset_at : {n s i r : ℕ} {reps : List ℕ} → Lengths n s → Rising n reps → 0 < i → i ≤ length reps → r ≡ get_or reps (i - 1) 0
     → CosetOf n s r
@@ -59,22 +51,6 @@ generator_lt {n} l reps {d} e =
 
 pub small_mask : {n s r f m : ℕ} → CosetOf n s r → Factored n s r f m → f < 2 ^ (m + 1)
 small_mask {n} {s} {r} {f} {m} c t = subst (λ (x : ℕ). x < 2 ^ (m + 1)) (sym t.mask_is) (generator_lt (length_stated c) (r ∷ []) t.degree_is)
-
--- ---- the tables of one round
-pub one_round : {s q : ℕ} {e g e' g' : List ℕ} → RoundFillable s e g → q ≡ 2 ^ s - 1 → length e' ≡ length e → length g' ≡ length g
-    → Powers s q e' → Logs s q g g' → RoundWhere true s e' g'
-one_round {s} {q} {e' = e'} r f a b p l = record {
-  round = λ h. record {
-    degree = r.degree;
-    e_long = omega (arith, a, r.e_long);
-    g_long = omega (arith, b, r.g_long);
-    powers = subst (λ (x : ℕ). Powers s x e') f p;
-    logs = λ k i. l.at k (omega arith);
-  };
-}
-
-pub no_round : {s : ℕ} {e g : List ℕ} → RoundWhere false s e g
-no_round = record { round = λ l. absurd (true_ne_false l refl) }
 
 -- ---- from the last representative down
 in_drop : (k : ℕ) (l : List ℕ) (q : ℕ) → In q (drop k l) → (j : ℕ) × (k ≤ j) × (j < length l) × (get_or l j 0 ≡ q)
@@ -137,9 +113,6 @@ making_more {n} {s} {i} {r} {reps} {p₀} {p} {w} {p'} {w'} l h a b q t m lp lw 
       long = lp ∙ t.long;
       other = lw ∙ t.other;
     }
-
-pub making_end : {n i : ℕ} {reps p₀ p w : List ℕ} → i ≡ 0 → Making n i reps p₀ p w → Multiplied (generator n reps) p₀ p w
-making_end {n} {i} {reps} {p₀} {p} {w} e t = subst (λ (k : ℕ). Multiplied (generator n (drop k reps)) p₀ p w) e t.made
 
 -- ---- in place of 1
 pub multiplied_one : {n P : ℕ} (reps : List ℕ) {p p' w' : List ℕ} → Length n → n < P → P ≡ places_in p → packed p ≡ 2 ^ 0 % 2 ^ P

@@ -1,75 +1,44 @@
 -- The value of a coset's factor at ω by sums of logarithms.
 --
---   SumOf s v sum vanishes       v is 0 where it vanishes, and else ω^sum
---   sum_start, sum_zero, sum_more      of 1, and of the product with 0 and with another element
---   Adding n s r m x sum vanishes        the sum is that of the value over m members, and x is the next
+--   Adding n s r m x sum     the sum is the logarithm of the value over m members, and x is the next
 --   place_lt, element_lt, log_lt     the next element, ω + α^x off the tables, and its logarithm
---   added_zero, added_more   the sum with it
---   adding_start, adding_more, adding_none, adding_end      it holds for none, is kept, and ends in the factor
-use mathlib.Core.Path.{◌≡◌, refl, sym, ap, ap₂, ◌∙◌, subst}
+--   coset_own                the coset, with s by its name
+--   adding_start, adding_more        it holds for none, and is kept
+--   adding_end, adding_zero          it ends in the factor, at the last member or at one whose element is 0
+use mathlib.Core.Path.{◌≡◌, sym, ap, ap₂, ◌∙◌, subst}
 use mathlib.Core.Logic.{◌≢◌}
-use mathlib.Core.Bool.{Bool, true, false}
 use mathlib.Core.List.{List}
 use Prim.Native.Nat.{ℕ, ◌+◌, ◌-◌, ◌*◌, ◌/◌, ◌%◌, ◌^◌, ◌<◌}
 use native.Mathlib.Nat.{mod-lt}
 use native.Mathlib.Omega.{arith}
 use lib.Bits.{bit_xor, xor_lt}
 use lib.ListN.{get_or}
-use Rattle.field.specs.Field.{Degree, ω, field_multiply, field_power, α}
+use Rattle.field.specs.Field.{order_of_two, ω, field_multiply, field_power, α}
 use Rattle.field.proofs.Primitive.{Degree-bounds}
-use Rattle.field.proofs.Search.{true_ne_false}
-use Rattle.field.proofs.Numbers.{power_z, power_add, power_lt, power_onto, multiply_zero, zero_multiply}
+use Rattle.field.proofs.Numbers.{power_z, power_add, power_lt, power_onto, zero_multiply}
 use Rattle.field.proofs.Exponents.{power_mod}
-use Rattle.generator.specs.Coset.{CosetOf, OneRound, FromValue, Factored}
-use Rattle.generator.proofs.CosetWalk.{Walking, degree_of, walking_start, walking_more, walking_end}
+use Rattle.generator.specs.Coset.{CosetOf, CosetWalked, OneRound, FromValue, Factored}
+use Rattle.generator.proofs.CosetWalk.{Walking, degree_of, walking_start, walking_more, walking_end, walked_more}
 use Rattle.generator.proofs.Roots.{index_lt, root_is}
-use Rattle.generator.proofs.CosetValue.{coset_value, value_start, value_next, factored}
+use Rattle.generator.proofs.CosetValue.{coset_value, value_start, value_next, value_zero_on, factored}
 
-pub record SumOf (s v sum : ℕ) (vanishes : Bool) : Type 0 where
-  pub sum_lt : sum < 2 ^ s - 1
-  pub none : vanishes ≡ true → v ≡ 0
-  pub some : vanishes ≡ false → v ≡ field_power s ω sum
-
--- ---- sums
-module _ {s : ℕ} (d : Degree s) where
-  pub sum_start : {v : ℕ} → 1 ≡ v → SumOf s v 0 false
-  sum_start e = record {
-    sum_lt = omega (arith, (Degree-bounds d).0);
-    none = λ z. absurd (true_ne_false z refl);
-    some = λ z. sym e ∙ sym (power_z s ω);
-  }
-
-  module _ {v b sum : ℕ} {vanishes : Bool} (t : SumOf s v sum vanishes) where
-    pub sum_zero : {u sum' : ℕ} {vanishes' : Bool} → field_multiply s b v ≡ u → b ≡ 0 → sum' ≡ sum → vanishes' ≡ true → SumOf s u sum' vanishes'
-    sum_zero e z f g = record {
-      sum_lt = omega (arith, f, t.sum_lt);
-      none = λ h. sym e ∙ ap (λ (x : ℕ). field_multiply s x v) z ∙ zero_multiply d v;
-      some = λ h. absurd (true_ne_false g h);
-    }
-
-    pub sum_more : (k : ℕ) {u sum' : ℕ} {vanishes' : Bool} → field_multiply s b v ≡ u → field_power s ω k ≡ b → sum' ≡ (sum + k) % (2 ^ s - 1) → vanishes' ≡ vanishes
-        → SumOf s u sum' vanishes'
-    sum_more k e l f g =
-        let four = (Degree-bounds d).0 in
-        let swap : k + sum ≡ 0 + 1 * (sum + k) = omega arith in
-        let once : 0 + 1 * ((sum + k) % (2 ^ s - 1)) ≡ (sum + k) % (2 ^ s - 1) = omega arith in
-        record {
-          sum_lt = subst (λ (x : ℕ). x < 2 ^ s - 1) (sym f) (mod-lt (sum + k) (omega arith));
-          none = λ h. sym e ∙ ap (field_multiply s b) (t.none (sym g ∙ h)) ∙ multiply_zero d b;
-          some = λ h. sym e ∙ ap₂ (field_multiply s) (sym l) (t.some (sym g ∙ h)) ∙ power_add d ω k sum
-              ∙ ap (field_power s ω) swap ∙ sym (power_mod d 0 1 (sum + k)) ∙ ap (field_power s ω) (once ∙ sym f);
-        }
-
--- ---- along the coset
-pub record Adding (n s r m x sum : ℕ) (vanishes : Bool) : Type 0 where
+pub record Adding (n s r m x sum : ℕ) : Type 0 where
   pub walking : Walking n r m x
-  pub value : SumOf s (coset_value n s r m) sum vanishes
+  pub sum_lt : sum < 2 ^ s - 1
+  pub value_is : coset_value n s r m ≡ field_power s ω sum
 
 module _ {n s r : ℕ} (c : CosetOf n s r) where
-  pub adding_start : Adding n s r 0 r 0 false
-  adding_start = record { walking = walking_start c; value = sum_start (degree_of c) (value_start c) }
+  pub coset_own : CosetOf n (order_of_two n) r
+  coset_own = subst (λ (i : ℕ). CosetOf n i r) c.s_is c
 
-  module _ {q m x sum : ℕ} {vanishes : Bool} {e g : List ℕ} (k : q ≡ (2 ^ s - 1) / n) (o : OneRound s e g) (t : Adding n s r m x sum vanishes) where
+  pub adding_start : Adding n s r 0 r 0
+  adding_start = record {
+    walking = walking_start c;
+    sum_lt = omega (arith, (Degree-bounds (degree_of c)).0);
+    value_is = sym (value_start c) ∙ sym (power_z s ω);
+  }
+
+  module _ {q m x sum : ℕ} {e g : List ℕ} (k : q ≡ (2 ^ s - 1) / n) (o : OneRound s e g) (t : Adding n s r m x sum) where
     pub place_lt : x * q < 2 ^ s - 1
     place_lt = index_lt (degree_of c) n k x t.walking.x_lt
 
@@ -84,32 +53,43 @@ module _ {n s r : ℕ} (c : CosetOf n s r) where
     more_is : field_multiply s (bit_xor (get_or e (x * q) 0) 2) (coset_value n s r m) ≡ coset_value n s r (m + 1)
     more_is = value_next c m t.walking.x_is read_is
 
-    logged : bit_xor (get_or e (x * q) 0) 2 ≢ 0 → (k : ℕ) × (k < 2 ^ s - 1) × (field_power s ω k ≡ bit_xor (get_or e (x * q) 0) 2)
-    logged h = power_onto (degree_of c) (bit_xor (get_or e (x * q) 0) 2) element_lt h
+    pub adding_zero : {M f d : ℕ} → bit_xor (get_or e (x * q) 0) 2 ≡ 0 → CosetWalked n (order_of_two n) r M → FromValue s 0 M f d
+        → Factored n s r f d
+    adding_zero {M} z w' =
+        let w : CosetWalked n s r M = subst (λ (i : ℕ). CosetWalked n i r M) (sym c.s_is) w' in
+        let here : coset_value n s r (m + 1) ≡ 0 =
+        sym more_is ∙ ap (λ (b : ℕ). field_multiply s b (coset_value n s r m)) z ∙ zero_multiply (degree_of c) (coset_value n s r m) in
+        factored c w (sym (value_zero_on c (m + 1) M (omega (arith, walked_more t.walking w)) here))
 
-    log_is : (h : bit_xor (get_or e (x * q) 0) 2 ≢ 0) → get_or g (bit_xor (get_or e (x * q) 0) 2) 0 ≡ (logged h).0
-    log_is h = ap (λ (b : ℕ). get_or g b 0) (sym (logged h).2) ∙ o.logs (logged h).0 (logged h).1
+    module _ (h : bit_xor (get_or e (x * q) 0) 2 ≢ 0) where
+      logged : (k : ℕ) × (k < 2 ^ s - 1) × (field_power s ω k ≡ bit_xor (get_or e (x * q) 0) 2)
+      logged = power_onto (degree_of c) (bit_xor (get_or e (x * q) 0) 2) element_lt h
 
-    pub log_lt : bit_xor (get_or e (x * q) 0) 2 ≢ 0 → get_or g (bit_xor (get_or e (x * q) 0) 2) 0 < 2 ^ s - 1
-    log_lt h = omega (arith, log_is h, (logged h).1)
+      log_is : get_or g (bit_xor (get_or e (x * q) 0) 2) 0 ≡ logged.0
+      log_is = ap (λ (b : ℕ). get_or g b 0) (sym logged.2) ∙ o.logs logged.0 logged.1
 
-    pub added_zero : {sum' : ℕ} {vanishes' : Bool} → bit_xor (get_or e (x * q) 0) 2 ≡ 0 → sum' ≡ sum → vanishes' ≡ true
-        → SumOf s (coset_value n s r (m + 1)) sum' vanishes'
-    added_zero h f z = sum_zero (degree_of c) t.value more_is h f z
+      pub log_lt : get_or g (bit_xor (get_or e (x * q) 0) 2) 0 < 2 ^ s - 1
+      log_lt = omega (arith, log_is, logged.1)
 
-    pub added_more : {end sum' : ℕ} {vanishes' : Bool} → end ≡ 2 ^ s - 1 → bit_xor (get_or e (x * q) 0) 2 ≢ 0
-        → sum' ≡ (sum + get_or g (bit_xor (get_or e (x * q) 0) 2) 0) % end → vanishes' ≡ vanishes
-        → SumOf s (coset_value n s r (m + 1)) sum' vanishes'
-    added_more i h f z =
-        sum_more (degree_of c) t.value (logged h).0 more_is (logged h).2 (f ∙ ap₂ (λ (b k : ℕ). (sum + b) % k) (log_is h) i) z
+      module _ {end sum' : ℕ} (i : end ≡ 2 ^ s - 1) (f : sum' ≡ (sum + get_or g (bit_xor (get_or e (x * q) 0) 2) 0) % end) where
+        sum_is : sum' ≡ (sum + logged.0) % (2 ^ s - 1)
+        sum_is = f ∙ ap₂ (λ (b k : ℕ). (sum + b) % k) log_is i
 
-  module _ {m x sum sum' : ℕ} {vanishes vanishes' : Bool} (t : Adding n s r m x sum vanishes) (u : SumOf s (coset_value n s r (m + 1)) sum' vanishes') where
-    pub adding_more : {y : ℕ} → y ≡ x * 2 % n → y ≢ r → Adding n s r (m + 1) y sum' vanishes'
-    adding_more e h = record { walking = walking_more c t.walking e h; value = u }
+        pub more_lt : sum' < 2 ^ s - 1
+        more_lt =
+            let four = (Degree-bounds (degree_of c)).0 in
+            subst (λ (y : ℕ). y < 2 ^ s - 1) (sym sum_is) (mod-lt (sum + logged.0) (omega arith))
 
-    pub adding_none : {y f k : ℕ} → y ≡ x * 2 % n → y ≡ r → vanishes' ≡ true → FromValue s 0 (m + 1) f k → Factored n s r f k
-    adding_none e h z = factored c (walking_end c t.walking e h) (sym (u.none z))
+        value_more : coset_value n s r (m + 1) ≡ field_power s ω sum'
+        value_more =
+            let j : ℕ = logged.0 in
+            let swap : j + sum ≡ 0 + 1 * (sum + j) = omega arith in
+            let once : 0 + 1 * ((sum + j) % (2 ^ s - 1)) ≡ (sum + j) % (2 ^ s - 1) = omega arith in
+            sym more_is ∙ ap₂ (field_multiply s) (sym logged.2) t.value_is ∙ power_add (degree_of c) ω j sum
+            ∙ ap (field_power s ω) swap ∙ sym (power_mod (degree_of c) 0 1 (sum + j)) ∙ ap (field_power s ω) (once ∙ sym sum_is)
 
-    pub adding_end : {y v f k : ℕ} → y ≡ x * 2 % n → y ≡ r → vanishes' ≡ false → v ≡ field_power s ω sum' → FromValue s v (m + 1) f k
-        → Factored n s r f k
-    adding_end e h z q = factored c (walking_end c t.walking e h) (q ∙ sym (u.some z))
+        pub adding_more : {y : ℕ} → y ≡ x * 2 % n → y ≢ r → Adding n s r (m + 1) y sum'
+        adding_more u v = record { walking = walking_more c t.walking u v; sum_lt = more_lt; value_is = value_more }
+
+        pub adding_end : {y b f d : ℕ} → y ≡ x * 2 % n → y ≡ r → b ≡ field_power s ω sum' → FromValue s b (m + 1) f d → Factored n s r f d
+        adding_end u v p = factored c (walking_end c t.walking u v) (p ∙ sym value_more)

@@ -1,6 +1,7 @@
 -- The factor of a coset by its value at ω.
 --
 --   coset_value n s r m       the product of ω + α^i over the first m members: value_start, value_next, value_lt
+--   value_zero_on            0 from a member on whose factor is 0
 --   from_whole, from_short   the mask of a value: of degree s, and of a smaller degree
 --   factored                 the mask of the value over all members is the factor
 use mathlib.Core.Path.{◌≡◌, refl, sym, ap, ap₂, ◌∙◌, subst}
@@ -9,6 +10,7 @@ use mathlib.Core.List.{[], ◌∷◌}
 use Prim.Native.Nat.{ℕ, zero, suc, ◌+◌, ◌*◌, ◌/◌, ◌%◌, ◌^◌, ◌≤◌, ◌<◌}
 use native.Mathlib.Nat.{lt_of_lt_of_le}
 use native.Mathlib.Numerals.{add-one}
+use native.Mathlib.Decide.{ℕ_discrete}
 use native.Mathlib.Omega.{arith}
 use lib.Bits.{bit_xor}
 use lib.Pow.{pow_mono}
@@ -18,15 +20,15 @@ use Rattle.field.proofs.Xor.{⊕-comm, ⊕-self, ⊕-norm, ⊕-shr}
 use Rattle.field.proofs.MaskProduct.{clmul_one_r}
 use Rattle.field.proofs.Remainder.{lt_of_high, remainder_small, remainder_unique}
 use Rattle.field.proofs.Primitive.{primitive}
-use Rattle.field.proofs.Numbers.{one_lt, multiply_lt}
+use Rattle.field.proofs.Numbers.{one_lt, multiply_lt, multiply_zero}
 use Rattle.cyclic.proofs.Lift.{lt_of_degree}
 use Rattle.document.specs.Generator.{root_product, generator}
 use Rattle.document.proofs.Sane.{set_size}
 use Rattle.document.proofs.GeneratorIs.{generator_degree}
 use Rattle.binary.proofs.Passing.{xor_is}
-use Rattle.generator.specs.Coset.{CosetOf, FromValue, Factored}
+use Rattle.generator.specs.Coset.{CosetOf, CosetWalked, FromValue, Factored}
 use Rattle.generator.proofs.AtOmega.{poly_value, poly_value_times, poly_value_one, poly_value_held}
-use Rattle.generator.proofs.CosetWalk.{walk, CosetWalked, length_stated, degree_of}
+use Rattle.generator.proofs.CosetWalk.{walk, length_stated, degree_of}
 use Rattle.generator.proofs.Factor.{walked_size, walked_holds}
 
 -- ---- the value
@@ -52,6 +54,15 @@ module _ {n s r : ℕ} (c : CosetOf n s r) where
   pub value_lt : (m : ℕ) → coset_value n s r m < 2 ^ s
   value_lt zero = subst (λ (x : ℕ). x < 2 ^ s) value_start (one_lt (degree_of c))
   value_lt (suc m) = subst (λ (x : ℕ). x < 2 ^ s) (sym (next m)) (multiply_lt (degree_of c) _ _)
+
+  pub value_zero_on : (m k : ℕ) → m ≤ k → coset_value n s r m ≡ 0 → coset_value n s r k ≡ 0
+  value_zero_on m zero l h = let e : zero ≡ m = omega arith in ap (coset_value n s r) e ∙ h
+  value_zero_on m (suc k) l h =
+      elim (ℕ_discrete m (suc k)) [
+        | yes e ↦ ap (coset_value n s r) (sym e) ∙ h
+        | no e ↦ next k ∙ ap (field_multiply s (ω ⊕ field_power s (α s n) (r * 2 ^ k % n))) (value_zero_on m k (omega arith) h)
+            ∙ multiply_zero (degree_of c) (ω ⊕ field_power s (α s n) (r * 2 ^ k % n))
+      ]
 
 -- ---- the mask of a value
 module _ {s : ℕ} (d : Degree s) where

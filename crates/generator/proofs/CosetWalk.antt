@@ -6,7 +6,8 @@
 --   Walking n r m x          m members are met, x is the next, and since the first none was r
 --   walking_start, walking_more      it holds at r, and is kept where the next is not r
 --   walking_lt               the next is the s-th at the latest
---   CosetWalked n s r m      all m members are met: walking_end, where the next is r
+--   walking_end              all members are met, where the next is r
+--   walked_more              they are more than those of an earlier walk
 use mathlib.Core.Path.{◌≡◌, refl, sym, ap, ◌∙◌, subst}
 use mathlib.Core.Logic.{◌≢◌}
 use mathlib.Core.List.{List, [], ◌∷◌}
@@ -18,7 +19,7 @@ use Rattle.field.specs.Field.{Degree}
 use Rattle.field.proofs.OrderOfTwo.{order_pos, count_lt}
 use Rattle.document.proofs.Theory.{Length, degree}
 use Rattle.document.proofs.Cosets.{round, walk_start, walk_more}
-use Rattle.generator.specs.Coset.{CosetOf}
+use Rattle.generator.specs.Coset.{CosetOf, CosetWalked}
 
 unfoldable pub walk : ℕ → ℕ → ℕ → List ℕ
 walk n r zero = []
@@ -33,12 +34,6 @@ pub record Walking (n r m x : ℕ) : Type 0 where
   pub x_is : x ≡ r * 2 ^ m % n
   pub x_lt : x < n
   pub first : (j : ℕ) → 0 < j → j ≤ m → r * 2 ^ j % n ≢ r
-
-pub record CosetWalked (n s r m : ℕ) : Type 0 where
-  pub pos : 1 ≤ m
-  pub most : m ≤ s
-  pub back : r * 2 ^ m % n ≡ r
-  pub first : (j : ℕ) → 0 < j → j < m → r * 2 ^ j % n ≢ r
 
 module _ {n s r : ℕ} (w : CosetOf n s r) where
   pub length_stated : Length n
@@ -81,3 +76,6 @@ module _ {n s r : ℕ} (w : CosetOf n s r) where
         back = sym next_is ∙ h;
         first = λ j b c. t.first j b (omega arith);
       }
+
+pub walked_more : {n s r m x k : ℕ} → Walking n r m x → CosetWalked n s r k → m < k
+walked_more {m = m} {k = k} t w = elim (dec_lt m k) [ yes h ↦ h | no h ↦ absurd (t.first k (omega (arith, w.pos)) (omega arith) w.back) ]

@@ -23,8 +23,8 @@ use Rattle.document.proofs.Cosets.{coset_at, coset_of, doubled, round, walk_star
 use Rattle.document.proofs.Theory.{T_of, of_T, members_are}
 use Rattle.document.proofs.Join.{alone_is, product_any}
 use Rattle.binary.specs.Bits.{Holds}
-use Rattle.generator.specs.Coset.{CosetOf}
-use Rattle.generator.proofs.CosetWalk.{walk, length_walk, CosetWalked, length_stated}
+use Rattle.generator.specs.Coset.{CosetOf, CosetWalked}
+use Rattle.generator.proofs.CosetWalk.{walk, length_walk, length_stated}
 
 pub walk_in : (n r m j : ℕ) → j < m → In (r * 2 ^ j % n) (walk n r m)
 unfolding walk

@@ -1,9 +1,10 @@
 // The factor of a coset, the product of x - α^i over it, with no polynomial over the field: it is a mask of degree at most s, so it
 // is its own value at ω, the product of ω + α^i over the coset, plus the field's mask where its degree is s.
-ghost use Rattle.std.specs.Prelude.{◌≡◌, ◌-◌, ◌/◌, ◌^◌};
-ghost use Rattle.field.specs.Field.{Degree};
-ghost use Rattle.generator.specs.Coset.{CosetOf, OneRound, RoundWhere, FromValue, Factored};
+ghost use Rattle.std.specs.Prelude.{◌≡◌, ◌-◌, ◌/◌, ◌^◌, IfSome};
+ghost use Rattle.field.specs.Field.{Degree, order_of_two};
+ghost use Rattle.generator.specs.Coset.{CosetOf, CosetWalked, FromValue, Factored};
 
+use crate::round::RoundTables;
 use field::order::{step, twice};
 use field::power::power;
 use field::product::{mask, multiply, order};
@@ -19,17 +20,12 @@ fn from_value(s: usize, value: u16, degree: usize) -> Factor
     requires { Degree s }
     ensures { FromValue s value degree result.mask result.degree }
 {
-    if degree == s {
-        return Factor {
-            mask: value ^ mask(s),
-            degree: degree,
-        };
-    }
-    Factor {
-        mask: value,
-        degree: degree,
-    }
+    let mask = if degree == s { value ^ mask(s) } else { value };
+    Factor { mask, degree }
 }
+
+// `CosetOf` and the exponent stand in each contract below: a struct of n, s, r and the exponent would be built anew for every coset, and
+// opened at once.
 
 // By products of elements. Each member's root is the square of the one before. The exponent is that of α as a power of ω.
 fn factor_by_products(n: usize, s: usize, r: usize, exponent: usize) -> Factor
@@ -42,50 +38,52 @@ fn factor_by_products(n: usize, s: usize, r: usize, exponent: usize) -> Factor
     let mut x = r;
     loop {
         value = multiply(s, root ^ 2, value);
-        degree = degree + 1;
+        degree += 1;
         x = twice(n, x);
         if x == r {
-            break;
+            return from_value(s, value, degree);
         }
         root = multiply(s, root, root);
     }
-    from_value(s, value, degree)
 }
 
-// By sums of logarithms. One of the elements may be 0, which has no logarithm: then so is the value.
-fn factor_by_logarithms(
-    n: usize,
-    s: usize,
-    r: usize,
-    exponent: usize,
-    powers: &[u16],
-    logs: &[u16],
-) -> Factor
-    requires { CosetOf n s r × (exponent ≡ (2 ^ s - 1) / n) × OneRound s powers.now logs.now }
-    ensures { Factored n s r result.mask result.degree }
+// How many members the coset of r has.
+fn members(n: usize, r: usize) -> usize
+    requires { CosetOf n (order_of_two n) r }
+    ensures { CosetWalked n (order_of_two n) r result }
 {
-    let end = order(s);
-    let mut sum: usize = 0;
-    let mut vanishes = false;
     let mut degree: usize = 0;
     let mut x = r;
     loop {
-        let element = powers[x * exponent] ^ 2;
-        if element == 0 {
-            vanishes = true;
-        } else {
-            sum = step(end, sum, logs[element as usize] as usize);
-        }
-        degree = degree + 1;
+        degree += 1;
         x = twice(n, x);
         if x == r {
-            break;
+            return degree;
         }
     }
-    if vanishes {
-        return from_value(s, 0, degree);
+}
+
+// By sums of logarithms. One of the elements may be 0, which has no logarithm: then the value is 0 too.
+fn factor_by_logarithms(n: usize, r: usize, exponent: usize, tables: &RoundTables) -> Factor
+    requires { CosetOf n tables.now.s r × (exponent ≡ (2 ^ tables.now.s - 1) / n) }
+    ensures { Factored n tables.now.s r result.mask result.degree }
+{
+    let end = order(tables.s);
+    let mut sum: usize = 0;
+    let mut degree: usize = 0;
+    let mut x = r;
+    'walk: loop {
+        let element = tables.powers[x * exponent] ^ 2;
+        if element == 0 {
+            return from_value(tables.s, 0, members(n, r));
+        }
+        sum = step(end, sum, tables.logs[element as usize] as usize);
+        degree += 1;
+        x = twice(n, x);
+        if x == r {
+            return from_value(tables.s, tables.powers[sum], degree);
+        }
     }
-    from_value(s, powers[sum], degree)
 }
 
 // The factor of the coset of r, by the tables of one round where they are filled.
@@ -94,15 +92,13 @@ pub fn coset_factor(
     s: usize,
     r: usize,
     exponent: usize,
-    filled: bool,
-    powers: &[u16],
-    logs: &[u16],
+    tables: Option<&RoundTables>,
 ) -> Factor
-    requires { CosetOf n s r × (exponent ≡ (2 ^ s - 1) / n) × RoundWhere filled s powers.now logs.now }
+    requires { CosetOf n s r × (exponent ≡ (2 ^ s - 1) / n) × IfSome tables (λ t. t.now.s ≡ s) }
     ensures { Factored n s r result.mask result.degree }
 {
-    if filled {
-        return factor_by_logarithms(n, s, r, exponent, powers, logs);
+    match tables {
+        Some(tables) => factor_by_logarithms(n, r, exponent, tables),
+        None => factor_by_products(n, s, r, exponent),
     }
-    factor_by_products(n, s, r, exponent)
 }

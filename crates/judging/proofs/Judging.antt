@@ -29,6 +29,7 @@ use Rattle.document.proofs.Sane.{settle_number, distance_pos}
 use Rattle.document.proofs.Working.{working_within}
 use Rattle.document.proofs.Chain.{first_true, first_false}
 use Rattle.document.proofs.Acceptance.{judge_by}
+use Rattle.sheet.specs.declared.types.Certificate.{Certificate as CodeCertificate}
 use Rattle.sheet.specs.Stage.{Marks}
 use Rattle.judging.specs.Weigh.{stated_as, weigh_of, recorded, stated_conditions, judge_stated}
 use Rattle.judging.proofs.Weighing.{settle_refused, stated_count}
@@ -177,20 +178,20 @@ no_marks n m h = record {
 }
 
 -- ---- the record
-pub record_is : (most n : ℕ) (reps : List ℕ) (count : ℕ) (w : List ℕ) {s size : ℕ} {best : Best}
+pub record_is : (most n : ℕ) (reps : List ℕ) (w : List CodeCertificate) {s size : ℕ} {best : Best}
     → s ≡ order_of_two n → size ≡ length (defining_set n reps)
-    → returned (best.index ∷ best.d ∷ best.terms ∷ []) ≡ weigh_of most (stated_as n reps count w)
-    → recorded n s size best ≡ record_of (stated_as n reps count w)
+    → returned (best.index ∷ best.d ∷ best.terms ∷ []) ≡ weigh_of most (stated_as n reps w)
+    → recorded n s size best ≡ record_of (stated_as n reps w)
 unfolding record_of dimension_of dimension radius
-record_is most n reps count w {s} {size} {best} a b f =
-    let q = best_is most (stated_as n reps count w) best.index best.d best.terms f in
+record_is most n reps w {s} {size} {best} a b f =
+    let q = best_is most (stated_as n reps w) best.index best.d best.terms f in
     λ i. n ∷ (n - b i) ∷ a i ∷ q.0 i ∷ q.1 i ∷ ((q.1 i - 1) / 2) ∷ q.2 i ∷ []
 
 -- the best certificate's index and distance, within what the code asks
-pub best_within : (most n : ℕ) (reps : List ℕ) (count : ℕ) (w : List ℕ) {best : Best} → 1 ≤ count
-    → returned (best.index ∷ best.d ∷ best.terms ∷ []) ≡ weigh_of most (stated_as n reps count w) → (best.index < count) × (1 ≤ best.d)
-best_within most n reps count w {best} one f =
-    let x : Stated = stated_as n reps count w in
+pub best_within : (most n : ℕ) (reps : List ℕ) (w : List CodeCertificate) {best : Best} → 1 ≤ length w
+    → returned (best.index ∷ best.d ∷ best.terms ∷ []) ≡ weigh_of most (stated_as n reps w) → (best.index < length w) × (1 ≤ best.d)
+best_within most n reps w {best} one f =
+    let x : Stated = stated_as n reps w in
     let q = best_is most x best.index best.d best.terms f in
-    let c = stated_count n reps count w in
+    let c = stated_count n reps w in
     (omega (arith, q.0, working_within x (omega (arith, c)), c), omega (arith, q.1, distance_pos (working_certificate x)))

@@ -1,22 +1,19 @@
 -- The loop over the certificates: all checked so far pass, and the best is the working one among them.
 --
 --   WeighedUpTo, Weighing         after i certificates: of what is stated, and as the code holds it
---   kept_larger, kept_shorter, new_shorter, new_larger      the better of two, by the tests of the code
 --   stated_count, stated_certificate      how many certificates are stated, and which
 --   weighing_start, weighing_stop, weighing_more, weighing_end      the loop
---   checked_same                  a check's answer, by an equation
 --   number_pos, settle_refused    a refusal's number is not 0
 use mathlib.Core.Path.{◌≡◌, refl, sym, ap, ap₂, ◌∙◌, subst}
-use mathlib.Core.Logic.{◌≢◌}
 use mathlib.Core.Bool.{Bool, true, false, not, ◌&&◌, ◌||◌}
 use mathlib.Core.List.{List, [], ◌∷◌, flat_map, append-nil}
 use Prim.Native.Nat.{ℕ, zero, suc, pred, ◌+◌, ◌-◌, ◌≤◌, ◌<◌}
 use native.Mathlib.Decide.{ℕ_discrete}
 use native.Mathlib.Numerals.{add-one}
 use native.Mathlib.Omega.{arith}
-use borrow.Author.Tests.{lt-ltb, le-ltb, eq-eqb, ne_eqb}
+use borrow.Author.Tests.{lt-ltb}
 use lib.Dec.{eqb, ltb}
-use lib.ListN.{length}
+use lib.ListN.{length, length-map}
 use Rattle.field.specs.Search.{up_to}
 use Rattle.field.proofs.Search.{true_ne_false}
 use Rattle.document.specs.declared.types.Refusal.{Refusal}
@@ -29,11 +26,12 @@ use Rattle.document.specs.Answer.{Answer, returned, refused, number_of, Conditio
 use Rattle.document.specs.Sheet.{Certificate, Stated, certificate_at}
 use Rattle.document.specs.Certificate.{distance, beats, working}
 use Rattle.document.specs.Judge.{working_of, working_certificate}
-use Rattle.sheet.specs.Stage.{Marks, certificate_in, certificates_in}
+use Rattle.sheet.specs.declared.types.Certificate.{Certificate as CodeCertificate}
+use Rattle.sheet.specs.Stage.{Marks, certificate_as, certificate_in}
+use Rattle.sheet.proofs.Reading.{held_certificate}
 use Rattle.certificate.specs.Rules.{check_of, CheckedBy}
-use Rattle.judging.specs.Weigh.{stated_as, Weighable, WeighedBy, weigh_of, chosen, better, best_of}
+use Rattle.judging.specs.Weigh.{stated_as, WeighedBy, weigh_of, chosen, better, best_of}
 use Rattle.document.proofs.Sane.{settle_number, distance_pos}
-use Rattle.document.proofs.Stated.{tabulated_at, tabulated_length}
 use Rattle.document.proofs.Chain.{Quiet, silent, first_quiet, quiet_append, each, flat, flat_all, flat_suc, four_quiet, flat_stop}
 use Rattle.document.proofs.Working.{First, first_one, first_new, first_same, unbeaten, ranked, working_is}
 
@@ -65,41 +63,12 @@ settle_zero : (v w o : List ℕ) → (settle 0 v w o).0 ≡ returned v
 unfolding settle_in
 settle_zero v w o = refl
 
--- ---- the better of two, by the tests of the code
-module _ (best : Best) (i e terms : ℕ) where
-  abbrev new : Best
-  new = record { index = i; d = e; terms = terms }
-
-  abbrev shorter : Bool
-  shorter = eqb e best.d && ltb terms best.terms
-
-  abbrev picked : Bool → Bool → Best
-  picked a b = chosen (a || b) new best
-
-  pub kept_larger : e < best.d → best ≡ best_of best i e terms
-  kept_larger h = sym
-      (ap₂ picked (le-ltb best.d e (omega arith)) (ap (λ b. b && ltb terms best.terms) (ne_eqb e best.d (λ q. omega arith))))
-
-  pub kept_shorter : e ≡ best.d → best.terms ≤ terms → best ≡ best_of best i e terms
-  kept_shorter q h = sym
-      (ap₂ picked (le-ltb best.d e (omega arith)) (ap₂ ◌&&◌ (eq-eqb e best.d q) (le-ltb terms best.terms h)))
-
-  pub new_shorter : e ≡ best.d → terms < best.terms → new ≡ best_of best i e terms
-  new_shorter q h = sym
-      (ap₂ picked (le-ltb best.d e (omega arith)) (ap₂ ◌&&◌ (eq-eqb e best.d q) (lt-ltb terms best.terms h)))
-
-  pub new_larger : best.d ≤ e → e ≢ best.d → new ≡ best_of best i e terms
-  new_larger h n = sym (ap (λ a. picked a shorter) (lt-ltb best.d e (omega (arith, n))))
-
 -- ---- what is stated, as the code holds it
-pub stated_count : (n : ℕ) (reps : List ℕ) (count : ℕ) (w : List ℕ) → length (stated_as n reps count w).certificates ≡ count
-unfolding certificates_in
-stated_count n reps count w = tabulated_length (certificate_in w) count
+pub stated_count : (n : ℕ) (reps : List ℕ) (w : List CodeCertificate) → length (stated_as n reps w).certificates ≡ length w
+stated_count n reps w = length-map w certificate_as
 
-pub stated_certificate : (n : ℕ) (reps : List ℕ) (count : ℕ) (w : List ℕ) (i : ℕ) → i < count
-    → certificate_at (stated_as n reps count w) i ≡ certificate_in w i
-unfolding certificates_in certificate_at
-stated_certificate n reps count w i h = tabulated_at (certificate_in w) count i _ h
+pub stated_certificate : (n : ℕ) (reps : List ℕ) (w : List CodeCertificate) (i : ℕ) → certificate_at (stated_as n reps w) i ≡ certificate_in w i
+stated_certificate n reps w i = held_certificate (stated_as n reps w) w i refl
 
 -- ---- the first i certificates of what is stated
 pub record WeighedUpTo (most : ℕ) (x : Stated) (i : ℕ) (best : Best) : Type 0 where
@@ -207,51 +176,38 @@ module _ (most : ℕ) (x : Stated) where
         ∙ ap₂ (λ (y z : ℕ). returned (best.index ∷ y ∷ z ∷ [])) (sym s.1) (sym s.2))
 
 -- ---- the loop, over whatever representatives are marked
-pub record Weighing (most n count i : ℕ) (best : Best) (w z : List ℕ) : Type 0 where
-  pub ready : Weighable most n count w z
+pub record Weighing (most n i : ℕ) (best : Best) (w : List CodeCertificate) (z : List ℕ) : Type 0 where
   pub small : best.d ≤ most + 8
-  pub weighed : (reps : List ℕ) → Marks n reps z → WeighedUpTo most (stated_as n reps count w) i best
+  pub weighed : (reps : List ℕ) → Marks n reps z → WeighedUpTo most (stated_as n reps w) i best
 
-pub weighing_start : {most n count : ℕ} {w z : List ℕ} → Weighable most n count w z
-    → Weighing most n count 0 (record { index = 0; d = 0; terms = 0 }) w z
-weighing_start {most} {n} {count} {w} r = record {
-  ready = r;
-  small = omega arith;
-  weighed = λ reps m. start most (stated_as n reps count w);
-}
+pub weighing_start : {most n : ℕ} {w : List CodeCertificate} {z : List ℕ} → Weighing most n 0 (record { index = 0; d = 0; terms = 0 }) w z
+weighing_start {most} {n} {w} = record { small = omega arith; weighed = λ reps m. start most (stated_as n reps w) }
 
-module _ {most n count i : ℕ} {best : Best} {w z : List ℕ} (g : Weighing most n count i best w z) where
+module _ {most n i : ℕ} {best : Best} {w : List CodeCertificate} {z : List ℕ} (g : Weighing most n i best w z) where
   -- certificate i, as the code holds it
-  by_check : {c : Certificate} {answer : Answer} → c ≡ certificate_in w i → i < count → CheckedBy most n c z answer → (reps : List ℕ)
-      → Marks n reps z → answer ≡ checked most (stated_as n reps count w) i
-  by_check {c} e h k reps m =
-      k.is reps m ∙ ap (check_of most n reps) (e ∙ sym (stated_certificate n reps count w i h))
+  by_check : {c : CodeCertificate} {answer : Answer} → certificate_as c ≡ certificate_in w i → CheckedBy most n (certificate_as c) z answer
+      → (reps : List ℕ) → Marks n reps z → answer ≡ checked most (stated_as n reps w) i
+  by_check e k reps m = k.is reps m ∙ ap (check_of most n reps) (e ∙ sym (stated_certificate n reps w i))
 
-  pub weighing_stop : (r : Refusal) {c : Certificate} → c ≡ certificate_in w i → i < count → CheckedBy most n c z (refused (number_of r))
-      → WeighedBy most n count w z (refused (number_of r))
+  pub weighing_stop : (r : Refusal) {c : CodeCertificate} → certificate_as c ≡ certificate_in w i → i < length w
+      → CheckedBy most n (certificate_as c) z (refused (number_of r)) → WeighedBy most n w z (refused (number_of r))
   weighing_stop r e h k = record {
-    is = λ reps m. stop most (stated_as n reps count w) (g.weighed reps m) r (omega (arith, stated_count n reps count w))
-        (by_check e h k reps m);
+    is = λ reps m. stop most (stated_as n reps w) (g.weighed reps m) r (omega (arith, stated_count n reps w)) (by_check e k reps m);
   }
 
-  pub weighing_more : {e terms : ℕ} {new : Best} {c : Certificate} → c ≡ certificate_in w i → terms ≡ c.L → i < count → e ≤ most + 8
-      → CheckedBy most n c z (returned (e ∷ [])) → new ≡ best_of best i e terms → Weighing most n count (i + 1) new w z
-  weighing_more {e} {terms} {new} q l h top k New-is = subst (λ b. Weighing most n count (i + 1) b w z) (sym New-is) (record {
-    ready = g.ready;
-    small = bounded (better best e terms);
-    weighed = λ reps m. more most (stated_as n reps count w) (g.weighed reps m)
-        (l ∙ ap (λ (c : Certificate). c.L) (q ∙ sym (stated_certificate n reps count w i h))) (by_check q h k reps m);
+  pub weighing_more : {e : ℕ} {new : Best} {c : CodeCertificate} → certificate_as c ≡ certificate_in w i → e ≤ most + 8
+      → CheckedBy most n (certificate_as c) z (returned (e ∷ [])) → new ≡ best_of best i e c.terms → Weighing most n (i + 1) new w z
+  weighing_more {e} {new} {c} q top k New-is = subst (λ b. Weighing most n (i + 1) b w z) (sym New-is) (record {
+    small = bounded (better best e c.terms);
+    weighed = λ reps m. more most (stated_as n reps w) (g.weighed reps m)
+        (ap (λ (c : Certificate). c.L) (q ∙ sym (stated_certificate n reps w i))) (by_check q k reps m);
   })
     where
-      bounded : (b : Bool) → (chosen b (record { index = i; d = e; terms = terms }) best).d ≤ most + 8
+      bounded : (b : Bool) → (chosen b (record { index = i; d = e; terms = c.terms }) best).d ≤ most + 8
       bounded true = top
       bounded false = g.small
 
-  pub weighing_end : i ≤ count → count ≤ i → WeighedBy most n count w z (returned (best.index ∷ best.d ∷ best.terms ∷ []))
-  weighing_end a b = record {
-    is = λ reps m. end most (stated_as n reps count w) (g.weighed reps m) (omega (arith, stated_count n reps count w))
-        (omega (arith, g.ready.one));
+  pub weighing_end : i ≡ length w → 1 ≤ length w → WeighedBy most n w z (returned (best.index ∷ best.d ∷ best.terms ∷ []))
+  weighing_end a one = record {
+    is = λ reps m. end most (stated_as n reps w) (g.weighed reps m) (omega (arith, stated_count n reps w)) (omega arith);
   }
-
-pub checked_same : {most n : ℕ} {c : Certificate} {z : List ℕ} {a b : Answer} → a ≡ b → CheckedBy most n c z a → CheckedBy most n c z b
-checked_same {most} {n} {c} {z} e k = subst (CheckedBy most n c z) e k

@@ -5,34 +5,30 @@ ghost use Rattle.sheet.specs.Stage.{Marks};
 ghost use Rattle.judging.specs.Weigh.{Judgeable, stated_as, judge_stated};
 
 use crate::record::record_of;
-use crate::types::Weighed;
 use crate::weigh::weigh;
-use document::types::{Judged, Refusal};
+use document::types::{Record, Refusal};
 use sheet::cosets::{marks, wrong_representative};
+use sheet::types::Certificate;
 
-// Refusals 5 to 10 of a code of length n with these representatives and the first `count` certificates, each of at most `most` terms.
+// Refusals 5 to 10 of a code of length n with these representatives and certificates, each of at most `most` terms.
 pub fn judge_code(
     most: usize,
     n: usize,
     s: usize,
     representatives: &[u16],
-    certificates: &[u16],
-    count: usize,
+    certificates: &[Certificate],
     zeros: &mut [u8],
-) -> Judged
-    requires { Judgeable most n s count certificates.now × Marks n [] zeros.old }
-    ensures { judged_as result ≡ judge_stated most (stated_as n representatives.now count certificates.now) }
+) -> Result<Record, Refusal>
+    requires { Judgeable most n s certificates.now × Marks n [] zeros.old }
+    ensures { judged_as result ≡ judge_stated most (stated_as n representatives.now certificates.now) }
 {
     if wrong_representative(n, s, representatives, zeros) {
-        return Judged::Refused(Refusal::Representative);
+        return Err(Refusal::Representative);
     }
     let size = marks(n, zeros);
     if size == n {
-        return Judged::Refused(Refusal::NoMessage);
+        return Err(Refusal::NoMessage);
     }
-    let weighed = weigh(most, n, certificates, count, zeros);
-    match weighed {
-        Weighed::Refused(r) => Judged::Refused(r),
-        Weighed::Working(best) => Judged::Accepted(record_of(n, s, size, best)),
-    }
+    let best = weigh(most, n, certificates, zeros)?;
+    Ok(record_of(n, s, size, best))
 }

@@ -7,6 +7,7 @@ use crate::types::Best;
 use document::types::Record;
 
 // The record, by n, s, the size of D and the working certificate: its d, t and number of terms are that one's.
+// Each number fits 16 bits by what is required, so it is cast: u16::try_from would add a refusal that can't come.
 pub fn record_of(n: usize, s: usize, size: usize, best: Best) -> Record
     requires { (size ≤ n) × (n ≤ 65535) × (s ≤ 65535) × (best.index ≤ 65535) × (1 ≤ best.d) × (best.d ≤ 65535) }
     ensures { record_as result ≡ recorded n s size best }

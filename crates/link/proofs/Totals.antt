@@ -21,7 +21,7 @@ use Rattle.document.specs.Answer.{Answer, returned}
 use Rattle.link.specs.History.{refused_by, changed_by, History, last_words, count, refused_in, changed_in}
 use Rattle.link.specs.History.{HealthCall, reset, report, OneByte, history_after}
 use Rattle.link.specs.Health.{changed_total, stored, reported, health_reset_of, health_report_of, health_refused_of, health_changed_of, state_after}
-use Rattle.link.proofs.Exits.{nothing_left, reset_right, report_right, refused_right, changed_right, refused_by_le, changed_by_le}
+use Rattle.link.proofs.Exits.{reset_right, report_right, refused_right, changed_right, refused_by_le, changed_by_le}
 
 abbrev Byte : ℕ → Type 0
 Byte r = r < 256
@@ -240,10 +240,10 @@ module _ {h : History} {s : List ℕ} (t : Tracks h s) (r : ℕ) (byte : r < 256
 
 -- ---- after any calls
 pub reset_state : (s : List ℕ) → length s ≡ 68 → replicate 68 0 ≡ (health_reset_of s).1
-reset_state s h = ap (λ (p : Answer × List ℕ). p.1) (reset_right s h (sym (nothing_left s h)))
+reset_state s h = ap (λ (p : Answer × List ℕ). p.1) (reset_right s h)
 
 pub report_state : (s : List ℕ) (r : ℕ) → length s ≡ 68 → reported s r ≡ (health_report_of s r).1
-report_state s r h = ap (λ (p : Answer × List ℕ). p.1) (report_right s r h refl)
+report_state s r h = ap (λ (p : Answer × List ℕ). p.1) (report_right s r h)
 
 pub bytes_after : {h : History} → All Byte h → {calls : List HealthCall} → All OneByte calls → All Byte (history_after h calls)
 unfolding history_after
@@ -271,5 +271,5 @@ health_totals s l cs =
     let t = tracks_after (subst (Tracks []) (reset_state s l) tracks_fresh) none cs in
     record {
       refused = sym (refused_right _ t.long) ∙ ap (λ (n : ℕ). returned (n ∷ [])) t.refused;
-      changed = sym (changed_right _ t.long refl) ∙ ap (λ (n : ℕ). returned (n ∷ [])) t.changed;
+      changed = sym (changed_right _ t.long) ∙ ap (λ (n : ℕ). returned (n ∷ [])) t.changed;
     }

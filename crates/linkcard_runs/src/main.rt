@@ -6,12 +6,17 @@ use std::rt::Files;
 use std::{fs, io};
 
 fn main(rt: HostRuntime) -> io::Result<()> {
-    list(&rt, "sheet_s_with_10_terms")?;
-    list(&rt, "period_15_of_21")?;
-    list(&rt, "two_of_one_distance")?;
-    list(&rt, "bytes_74")?;
-    list(&rt, "bytes_75_as_stated")?;
-    list(&rt, "bytes_100_of_74_stated")
+    for name in [
+        "sheet_s_with_10_terms",
+        "period_15_of_21",
+        "two_of_one_distance",
+        "bytes_74",
+        "bytes_75_as_stated",
+        "bytes_100_of_74_stated",
+    ] {
+        list(&rt, name)?;
+    }
+    Ok(())
 }
 
 // A file's name, and the listing of what it holds.

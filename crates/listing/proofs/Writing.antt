@@ -1,9 +1,10 @@
 -- Pieces written one after the other.
 --
---   wrote_none, wrote_one, wrote_end      nothing, a byte, a copy at its end
+--   wrote_none, wrote_one      nothing, and a byte
 --   wrote_length     the slice keeps its length
---   then, join       a piece after a piece; and one that has two parts
+--   after            a piece after a piece
 --   piece_is         the same piece by another name
+--   adds_is, adds_none, then, join      the same on a page; and a piece that has two parts
 --   page             what a whole text leaves, as an entry answers it
 use mathlib.Core.Path.{◌≡◌, refl, sym, ap, ap₂, ◌∙◌, subst}
 use mathlib.Core.List.{List, [], ◌∷◌, ◌++◌, append_assoc, append-nil}
@@ -12,9 +13,10 @@ use native.Mathlib.Nat.{zero-add}
 use native.Mathlib.Numerals.{add-one}
 use native.Mathlib.Omega.{arith}
 use lib.ListN.{length, take, drop, set, length-append, length-drop, take-append-drop}
-use lib.Seq.{length-take-le, take-length, append_snoc, set_split, take_at, drop-append-add, drop-drop, paste}
+use lib.Seq.{length-take-le, append_snoc, set_split, take_at, drop-append-add, drop-drop}
 use Rattle.document.specs.Answer.{Answer, returned}
-use Rattle.listing.specs.Wrote.{Wrote}
+use Rattle.listing.specs.declared.piece.Page.{Page}
+use Rattle.listing.specs.Wrote.{Wrote, Adds}
 
 pub piece_is : {p q : List ℕ} {at end : ℕ} {out out' : List ℕ} → p ≡ q → Wrote p at out out' end → Wrote q at out out' end
 piece_is {p} {q} {at} {end} {out} {out'} e w = subst (λ (x : List ℕ). Wrote x at out out' end) e w
@@ -36,15 +38,6 @@ wrote_one {at} {byte} {out} h = record {
       ∙ ap (λ (k : ℕ). take at out ++ (byte ∷ []) ++ drop k out) (sym (add-one at));
 }
 
-pub wrote_end : {at i end : ℕ} {text out out' : List ℕ} → at + length text ≤ length out → end ≡ length text → i ≡ end
-    → out' ≡ paste out at text i → Wrote text at out out' (at + end)
-wrote_end {at} {i} {end} {text} {out} {out'} h e f p = record {
-  end_is = ap (λ (k : ℕ). at + k) e;
-  within = omega arith;
-  is = p ∙ ap (paste out at text) (f ∙ e)
-      ∙ ap (λ (r : List ℕ). take at out ++ r ++ drop (at + length text) out) (take-length text);
-}
-
 module _ {p : List ℕ} {at e : ℕ} {o o₁ : List ℕ} (a : Wrote p at o o₁ e) where
   start_le : at ≤ length o
   start_le = omega (arith, a.end_is, a.within)
@@ -58,8 +51,8 @@ module _ {p : List ℕ} {at e : ℕ} {o o₁ : List ℕ} (a : Wrote p at o o₁ 
       ap length a.is
       ∙ omega (arith, length-append (take at o ++ p) tail, head_length, length-drop (at + length p) o, a.end_is, a.within)
 
-  pub then : {q : List ℕ} {e₂ : ℕ} {o₂ : List ℕ} → Wrote q e o₁ o₂ e₂ → Wrote (p ++ q) at o o₂ e₂
-  then {q} {e₂} {o₂} b = record {
+  pub after : {q : List ℕ} {e₂ : ℕ} {o₂ : List ℕ} → Wrote q e o₁ o₂ e₂ → Wrote (p ++ q) at o o₂ e₂
+  after {q} {e₂} {o₂} b = record {
     end_is = omega (arith, a.end_is, b.end_is, length-append p q);
     within = omega (arith, b.within, wrote_length);
     is = b.is ∙ ap₂ (λ (x y : List ℕ). x ++ q ++ y) front back
@@ -78,9 +71,20 @@ module _ {p : List ℕ} {at e : ℕ} {o o₁ : List ℕ} (a : Wrote p at o o₁ 
           ∙ drop-drop (length q) (at + length p) o
           ∙ ap (λ (k : ℕ). drop k o) s
 
+-- ---- pages
+pub adds_is : {p q : List ℕ} {a b : Page} → p ≡ q → Adds p a b → Adds q a b
+adds_is e w = record { same = w.same; long = w.long; wrote = piece_is e w.wrote }
+
+pub adds_none : {a : Page} → a.end ≤ length a.out.now → Adds [] a a
+adds_none h = record { same = refl; long = refl; wrote = wrote_none h }
+
+module _ {p : List ℕ} {a b : Page} (x : Adds p a b) where
+  pub then : {q : List ℕ} {c : Page} → Adds q b c → Adds (p ++ q) a c
+  then y = record { same = y.same ∙ x.same; long = y.long ∙ x.long; wrote = after x.wrote y.wrote }
+
   -- lines are left-nested sums of words and numbers, and a word goes with the number after it
-  pub join : (q r : List ℕ) {e₂ : ℕ} {o₂ : List ℕ} → Wrote (q ++ r) e o₁ o₂ e₂ → Wrote (p ++ q ++ r) at o o₂ e₂
-  join q r b = piece_is (sym (append_assoc p q r)) (then b)
+  pub join : (q r : List ℕ) {c : Page} → Adds (q ++ r) b c → Adds (p ++ q ++ r) a c
+  join q r y = adds_is (sym (append_assoc p q r)) (then y)
 
 pub page : {text out out' : List ℕ} {r : ℕ} → Wrote text 0 out out' r
     → ◌≡◌ {A = Answer × List ℕ} (returned (r ∷ []), out') (returned (length text ∷ []), text ++ drop (length text) out)

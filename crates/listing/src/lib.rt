@@ -1,7 +1,7 @@
 // Text in a lent slice: bytes, numbers, and the lines of a sheet's listing.
 #![tactic(auto)]
 
-// bytes and decimal numbers
+// the page that is written; bytes and decimal numbers
 pub mod piece;
 
 // members of D, and coefficients

@@ -6,5 +6,6 @@ pub mod Lanes
 pub mod Entries
 pub mod Walking
 pub mod Finding
+pub mod Reading
 pub mod Neighbours
 pub mod Searching

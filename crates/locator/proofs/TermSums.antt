@@ -26,7 +26,7 @@ use Rattle.field.proofs.Xor.{⊕-assoc, ⊕-self, ⊕-zero-l, ⊕-zero-r}
 use Rattle.field.proofs.Primitive.{Degree-bounds}
 use Rattle.field.proofs.Numbers.{power_lt}
 use Rattle.binary.specs.Lanes.{in_lanes}
-use Rattle.locator.specs.Terms.{lanes, term_sum, vanishes, alone_at, vanishes_alone, Laned}
+use Rattle.locator.specs.Terms.{lanes, term_sum, vanishes, alone_at, vanishes_alone, Ones}
 
 pub sum_z : (s : ℕ) (lg st : List ℕ) (κ : ℕ → ℕ) (i : ℕ) → term_sum s lg st κ i 0 ≡ 0
 unfolding term_sum
@@ -95,12 +95,12 @@ pub record Both (s first : ℕ) (lg st lo hi : List ℕ) (i m a b : ℕ) : Type 
 pub both_start : {s first i a : ℕ} {lg st lo hi : List ℕ} → a ≡ first → Both s first lg st lo hi i 0 a 0
 both_start e = record { low = summing_start e; high = summing_start refl }
 
-pub both_more : {s first i m a b : ℕ} {lg st lo hi : List ℕ} (x y : ℕ) → x ≡ y
+pub both_more : {s first i m a b p q : ℕ} {lg st lo hi : List ℕ} (x y : ℕ) → p ≡ get_or lo m 0 → q ≡ get_or hi m 0 → x ≡ y
     → y ≡ field_power s ω (get_or lg m 0 + i * get_or st m 0) → Both s first lg st lo hi i m a b
-    → Both s first lg st lo hi i (m + 1) (bit_xor a (x * get_or lo m 0)) (bit_xor b (x * get_or hi m 0))
-both_more {m = m} {lo = lo} {hi} x y e f t = record {
-  low = summing_more (x * get_or lo m 0) (weighed (get_or lo m 0) e f) t.low;
-  high = summing_more (x * get_or hi m 0) (weighed (get_or hi m 0) e f) t.high;
+    → Both s first lg st lo hi i (m + 1) (bit_xor a (x * p)) (bit_xor b (x * q))
+both_more {m = m} {p = p} {q} {lo = lo} {hi} x y lo_is hi_is e f t = record {
+  low = summing_more (x * p) (ap (λ (k : ℕ). x * k) lo_is ∙ weighed (get_or lo m 0) e f) t.low;
+  high = summing_more (x * q) (ap (λ (k : ℕ). x * k) hi_is ∙ weighed (get_or hi m 0) e f) t.high;
 }
 
 -- ---- the test
@@ -130,7 +130,7 @@ sum_none s lg st κ i (suc m) h =
     ∙ ⊕-self 0
 
 -- where every remainder is 1
-pub hit_one : (s first i : ℕ) {c u : ℕ} (lg st : List ℕ) {lo hi : List ℕ} {r : Bool} → Laned u c lo hi → u ≡ 1
+pub hit_one : (s first i : ℕ) {c u : ℕ} (lg st : List ℕ) {lo hi : List ℕ} {r : Bool} → Ones u c lo hi → u ≡ 1
     → r ≡ eqb (first ⊕ term_sum s lg st (λ m. 1) i c) 0 → r ≡ vanishes s first c lg st lo hi i
 unfolding vanishes
 hit_one s first i {c} {u} lg st {lo} {hi} {r} l e q =
@@ -142,7 +142,7 @@ hit_one s first i {c} {u} lg st {lo} {hi} {r} l e q =
     (sum_none s lg st (λ m. get_or hi m 0) i c (l.hi_one e)))
 
 -- ---- for f = 1 + x
-pub alone_is : (s first : ℕ) {c u : ℕ} (lg st : List ℕ) {lo hi : List ℕ} → Laned u c lo hi → u ≡ 1
+pub alone_is : (s first : ℕ) {c u : ℕ} (lg st : List ℕ) {lo hi : List ℕ} → Ones u c lo hi → u ≡ 1
     → vanishes_alone s first c lg st ≡ vanishes s first c lg st lo hi
 unfolding vanishes_alone alone_at
 alone_is s first lg st l e = fun_ext (λ i. hit_one s first i lg st l e refl)

@@ -16,10 +16,11 @@ use Rattle.field.proofs.Elements.{GF, root}
 use Rattle.cyclic.proofs.Lift.{lift}
 use Rattle.cyclic.proofs.Places.{gather, count}
 use Rattle.binary.specs.Factor.{Modulus}
-use Rattle.field.specs.Tables.{Tables}
 use Rattle.field.specs.Search.{bit}
 use Rattle.syndrome.specs.Sums.{Listed}
 use Rattle.poly.specs.Slice.{series}
+use Rattle.locator.specs.declared.terms.Term.{Term}
+use Rattle.locator.specs.declared.terms.Lanes.{Lanes}
 use Rattle.locator.specs.Terms.{LocatorSlices}
 
 pub record Noted (hit : Bool) (c i : ℕ) (places places' : List ℕ) (r : ℕ) : Type 0 where
@@ -38,14 +39,13 @@ pub record Found (n t mask : ℕ) (places : List ℕ) (r : ℕ) : Type 0 where
   pub all : r ≤ t → (r ≡ count n mask) × Listed n mask places r
   pub many : t < r → t < count n mask
 
-pub record Search (n s z f u len : ℕ) (lam e g lg st lo hi places : List ℕ) : Type 0 where
-  pub tables : Tables s e g
+pub record Search (n s z f u : ℕ) (lam : List ℕ) (terms : List Term) (words : List Lanes) (places : List ℕ) : Type 0 where
   pub odd : OddLength n
   pub s_is : s ≡ order_of_two n
   pub z_lo : 1 ≤ z
   pub z_hi : z < n
   pub modulus : Modulus f u
-  pub locator : LocatorSlices s len lam lg st lo hi
+  pub locator : LocatorSlices s lam terms words
   pub list_long : n ≤ length places
 
 pub record Located (n s z f t : ℕ) (lam places : List ℕ) (r : ℕ) : Type 0 where

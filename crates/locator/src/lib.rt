@@ -1,9 +1,6 @@
 // The places at which the factor of a place divides a locator.
 #![tactic(auto)]
 
-// four sums
-pub mod types;
-
 // a locator's terms made ready for the search
 pub mod terms;
 

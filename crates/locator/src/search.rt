@@ -1,21 +1,38 @@
 // Every place searched, and those listed at which the remainder of a locator by f vanishes: Chien's search, four places at a time, for
 // f = 1 + x, and one in lanes for f of any degree.
-ghost use Rattle.std.specs.Prelude.{◌≡◌, ◌+◌, ◌-◌, ◌^◌, ◌<◌, ◌≤◌, length};
-ghost use Rattle.field.specs.Tables.{Powered};
+ghost use Rattle.std.specs.Prelude.{◌≡◌, ◌+◌, ◌-◌, ◌^◌, ◌<◌, ◌≤◌, length, get_or};
 ghost use Rattle.locator.specs.Locate.{Noted, NotedBelow, hits, Found};
-ghost use Rattle.locator.specs.Terms.{alone_at, Logged, vanishes as vanishesOf, Searchable, vanishes_alone};
+ghost use Rattle.locator.specs.Terms.{exponents_of, steps_of, low_of, high_of, alone_of, Logged, Laned, vanishes_of, vanishes_alone_of};
 
-use crate::types::Four;
-use field::exponent::{index, term};
-use syndrome::columns::wide;
+use crate::terms::{Lanes, Term};
+use field::exponent::index;
+use field::tables::PowerTable;
 
-// Place i noted as the next of the list, where it is hit: 1 if so. Written in any case: no branch can guess it.
+// A locator's terms, and its constant term, which is the same at every place.
+#[derive(Clone, Copy)]
+pub struct TermList<'a> {
+    pub constant: u16,
+    pub terms: &'a [Term],
+    pub power_table: PowerTable<'a>,
+    ghost listed: { Logged power_table.s (length terms.now) (exponents_of terms.now) (steps_of terms.now) },
+}
+
+// The same with the terms' remainders.
+#[derive(Clone, Copy)]
+pub struct LanedTerms<'a> {
+    pub list: TermList<'a>,
+    pub lanes: &'a [Lanes],
+    ghost laned: { Laned (length list.terms.now) (low_of lanes.now) (high_of lanes.now) },
+}
+
+// Place i noted as the next of the list, where it is hit: 1 if so. Written in any case: no branch can guess it. That n places go in is a fact
+// of the lent list, not of the terms, so each search asks it.
 pub fn note(hit: bool, places: &mut [u16], c: usize, i: usize) -> usize
     requires { (c < length places.old) × (i < 65536) }
     ensures { Noted hit c i places.old places.new result }
 {
     places[c] = i as u16;
-    if hit { 1 } else { 0 }
+    usize::from(hit)
 }
 
 // The same for a place that may lie past the last, and is none then.
@@ -23,139 +40,89 @@ pub fn note_below(n: usize, hit: bool, places: &mut [u16], c: usize, i: usize) -
     requires { (n ≤ length places.old) × (n ≤ 65536) × (c ≤ i) }
     ensures { NotedBelow n hit c i places.old places.new result }
 {
-    if i < n {
-        return note(hit, places, c, i);
-    }
-    0
+    if i < n { note(hit, places, c, i) } else { 0 }
 }
 
-// The sums of the terms at four neighbouring places, for f = 1 + x: the exponents at each are one step on from those at the one before.
-pub fn four(
-    constant: u16,
-    exponents: &[u16],
-    steps: &[u16],
-    count: usize,
-    i: usize,
-    s: usize,
-    powers: &[u16],
-) -> Four
-    requires { Powered s powers.now × Logged s count exponents.now steps.now × (i < 2 ^ s - 1) }
-    ensures { (result.first ≡ alone_at s constant count exponents.now steps.now i)
-        × (result.second ≡ alone_at s constant count exponents.now steps.now (i + 1))
-        × (result.third ≡ alone_at s constant count exponents.now steps.now (i + 2))
-        × (result.fourth ≡ alone_at s constant count exponents.now steps.now (i + 3)) }
-{
-    let mut first = 0u16;
-    let mut second = 0u16;
-    let mut third = 0u16;
-    let mut fourth = 0u16;
-    let mut m: usize = 0;
-    while m < count {
-        let a = steps[m] as usize;
-        let y = index(exponents[m], steps[m], i, s);
-        first = first ^ powers[y];
-        second = second ^ powers[y + a];
-        third = third ^ powers[y + 2 * a];
-        fourth = fourth ^ powers[y + 3 * a];
-        m = m + 1;
-    }
-    Four {
-        first: constant ^ first,
-        second: constant ^ second,
-        third: constant ^ third,
-        fourth: constant ^ fourth,
-    }
-}
-
-// Whether all coefficients of the remainder vanish at place i, for any f: a lane of two words for each coefficient, and so one load
-// and two products a term.
-pub fn lanes_vanish(
-    first: u16,
-    exponents: &[u16],
-    steps: &[u16],
-    low: &[u64],
-    high: &[u64],
-    count: usize,
-    u: usize,
-    i: usize,
-    s: usize,
-    powers: &[u16],
-) -> bool
-    requires { Searchable s u count exponents.now steps.now low.now high.now powers.now × (i < 2 ^ s - 1) }
-    ensures { result ≡ vanishesOf s first count exponents.now steps.now low.now high.now i }
-{
-    let mut a = wide(first);
-    let mut b = 0u64;
-    let mut m: usize = 0;
-    while m < count {
-        let y = wide(term(exponents[m], steps[m], i, s, powers));
-        a = a ^ (y * low[m]);
-        b = b ^ (y * high[m]);
-        m = m + 1;
-    }
-    if b == 0 { a == 0 } else { false }
-}
-
-// Every place of n, until more than t are found.
-pub fn search(
-    n: usize,
-    t: usize,
-    first: u16,
-    exponents: &[u16],
-    steps: &[u16],
-    low: &[u64],
-    high: &[u64],
-    count: usize,
-    u: usize,
-    s: usize,
-    powers: &[u16],
-    places: &mut [u16],
-) -> usize
-    requires { Searchable s u count exponents.now steps.now low.now high.now powers.now × (n ≤ 2 ^ s - 1) × (n ≤ length places.old) × (n ≤ 65536) }
-    ensures { Found n t
-        (hits n (vanishesOf s first count exponents.now steps.now low.now high.now))
-        places.new result }
-{
-    let mut c: usize = 0;
-    let mut i: usize = 0;
-    while i < n {
-        let hit = lanes_vanish(first, exponents, steps, low, high, count, u, i, s, powers);
-        c = c + note(hit, places, c, i);
-        if t < c {
-            return c;
+impl<'a> TermList<'a> {
+    // The sums of the terms at four neighbouring places, for f = 1 + x: the exponents at each are one step on from those at the one
+    // before.
+    pub fn four(&self, i: usize) -> [u16; 4]
+        requires { i < 2 ^ self.now.power_table.s - 1 }
+        ensures { (get_or result 0 0 ≡ alone_of self.now.power_table.s self.now.constant self.now.terms.now i)
+            × (get_or result 1 0 ≡ alone_of self.now.power_table.s self.now.constant self.now.terms.now (i + 1))
+            × (get_or result 2 0 ≡ alone_of self.now.power_table.s self.now.constant self.now.terms.now (i + 2))
+            × (get_or result 3 0 ≡ alone_of self.now.power_table.s self.now.constant self.now.terms.now (i + 3)) }
+    {
+        let powers = self.power_table.powers;
+        let mut first = 0u16;
+        let mut second = 0u16;
+        let mut third = 0u16;
+        let mut fourth = 0u16;
+        for term in self.terms {
+            let a = term.step as usize;
+            let y = index(term.exponent, term.step, i, self.power_table.s);
+            first ^= powers[y];
+            second ^= powers[y + a];
+            third ^= powers[y + 2 * a];
+            fourth ^= powers[y + 3 * a];
         }
-        i = i + 1;
+        [
+            self.constant ^ first,
+            self.constant ^ second,
+            self.constant ^ third,
+            self.constant ^ fourth,
+        ]
     }
-    c
+
+    // Every place of n, until more than t are found, four at a time.
+    pub fn search_fours(&self, n: usize, t: usize, places: &mut [u16]) -> usize
+        requires { (n ≤ 2 ^ self.now.power_table.s - 1) × (n ≤ length places.old) × (n ≤ 65536) }
+        ensures { Found n t (hits n (vanishes_alone_of self.now.power_table.s self.now.constant self.now.terms.now)) places.new result }
+    {
+        let mut c: usize = 0;
+        for i in (0..n).step_by(4) {
+            let [first, second, third, fourth] = self.four(i);
+            c += note_below(n, first == 0, places, c, i);
+            c += note_below(n, second == 0, places, c, i + 1);
+            c += note_below(n, third == 0, places, c, i + 2);
+            c += note_below(n, fourth == 0, places, c, i + 3);
+            if t < c {
+                return c;
+            }
+        }
+        c
+    }
 }
 
-// For f = 1 + x, four places at a time.
-pub fn search_fours(
-    n: usize,
-    t: usize,
-    constant: u16,
-    exponents: &[u16],
-    steps: &[u16],
-    count: usize,
-    s: usize,
-    powers: &[u16],
-    places: &mut [u16],
-) -> usize
-    requires { Powered s powers.now × Logged s count exponents.now steps.now × (n ≤ 2 ^ s - 1) × (n ≤ length places.old) × (n ≤ 65536) }
-    ensures { Found n t (hits n (vanishes_alone s constant count exponents.now steps.now)) places.new result }
-{
-    let mut c: usize = 0;
-    let mut i: usize = 0;
-    while i < n {
-        let p = four(constant, exponents, steps, count, i, s, powers);
-        c = c + note_below(n, p.first == 0, places, c, i);
-        c = c + note_below(n, p.second == 0, places, c, i + 1);
-        c = c + note_below(n, p.third == 0, places, c, i + 2);
-        c = c + note_below(n, p.fourth == 0, places, c, i + 3);
-        if t < c {
-            return c;
+impl<'a> LanedTerms<'a> {
+    // Whether all coefficients of the remainder vanish at place i, for any f: a lane of two words for each coefficient, and so one load
+    // and two products a term.
+    pub fn lanes_vanish(&self, i: usize) -> bool
+        requires { i < 2 ^ self.now.list.power_table.s - 1 }
+        ensures { result ≡ vanishes_of self.now.list.power_table.s self.now.list.constant self.now.list.terms.now self.now.lanes.now i }
+    {
+        let mut a = u64::from(self.list.constant);
+        let mut b = 0u64;
+        for (m, term) in self.list.terms.iter().enumerate() {
+            let y = u64::from(self.list.power_table.term(term.exponent, term.step, i));
+            a ^= y * self.lanes[m].low;
+            b ^= y * self.lanes[m].high;
         }
-        i = i + 4;
+        b == 0 && a == 0
     }
-    c
+
+    // Every place of n, until more than t are found.
+    pub fn search(&self, n: usize, t: usize, places: &mut [u16]) -> usize
+        requires { (n ≤ 2 ^ self.now.list.power_table.s - 1) × (n ≤ length places.old) × (n ≤ 65536) }
+        ensures { Found n t (hits n (vanishes_of self.now.list.power_table.s self.now.list.constant self.now.list.terms.now self.now.lanes.now)) places.new result }
+    {
+        let mut c: usize = 0;
+        for i in 0..n {
+            c += note(self.lanes_vanish(i), places, c, i);
+            if t < c {
+                return c;
+            }
+        }
+        c
+    }
 }

@@ -1,13 +1,13 @@
 -- The two rows of Euclid's algorithm in four slices: (a, w), the longer, and (b, v).
 --
---   State s l S a b v w e g la lb lv lw      they are rows on x^l and S; a and b have the lengths la and lb, and w and v
+--   State s l S a b v w la lb lv lw      they are rows on x^l and S; a and b have the lengths la and lb, and w and v
 --                     at most lw and lv coefficients
 --   state_start       the rows x^l with 0, and S with 1
 --   cofactors_fit, reducible   their lengths are such that the first can be divided by the second
 --   state_turn        it is divided, and they change places
---   solved, outcome_v, outcome_w      the cofactor of a remainder that is short enough is the solution
+--   solved            the cofactor of a remainder that is short enough is the solution
+--   solved_as         so in a slice that holds the same
 use mathlib.Core.Path.{◌≡◌, refl, sym, ap, ◌∙◌, subst}
-use mathlib.Core.Bool.{true, false}
 use mathlib.Core.List.{List}
 use Prim.Native.Nat.{ℕ, suc, ◌+◌, ◌-◌, ◌≤◌, ◌<◌, max}
 use native.Mathlib.Omega.{arith}
@@ -18,15 +18,13 @@ use Rattle.algebra.proofs.Rows.{Rows, begin, swap, lower, step}
 use Rattle.field.specs.Field.{Degree}
 use Rattle.field.proofs.Elements.{GF}
 use Rattle.field.proofs.Numbers.{one_lt}
-use Rattle.field.proofs.Search.{true_ne_false}
-use Rattle.field.specs.Tables.{Tables}
 use Rattle.poly.specs.Slice.{Small, Short, series}
 use Rattle.poly.specs.Division.{LengthOf, Reducible, Reduced}
-use Rattle.poly.specs.Key.{Solvable, Solved, Outcome}
+use Rattle.poly.specs.Key.{Solvable, Solved}
 use Rattle.poly.proofs.Slices.{below_of, short_of, one_here, else_zero, small_one, series_one}
 
-pub record State (s l : ℕ) (S a b v w e g : List ℕ) (la lb lv lw : ℕ) : Type 0 where
-  pub tables : Tables s e g
+pub record State (s l : ℕ) (S a b v w : List ℕ) (la lb lv lw : ℕ) : Type 0 where
+  pub degree : Degree s
   pub a_small : Small s a
   pub b_small : Small s b
   pub v_small : Small s v
@@ -41,23 +39,21 @@ pub record State (s l : ℕ) (S a b v w e g : List ℕ) (la lb lv lw : ℕ) : Ty
   pub b_shorter : lb ≤ la
   pub w_shorter : lw ≤ lv
   pub v_pos : 0 < lv
-  pub w_pos : 0 < lw
   pub rows : (d : Degree s)
       → Rows (GF d) l (series d S) (series d a) (series d w) (series d b) (series d v) la (lw - 1) lb (lv - 1)
 
-module _ {s l la lb lv lw : ℕ} {S a b v w e g : List ℕ} (z : State s l S a b v w e g la lb lv lw) where
+module _ {s l la lb lv lw : ℕ} {S a b v w : List ℕ} (z : State s l S a b v w la lb lv lw) where
   v_short : Short lv v
   v_short =
-      let d : Degree s = z.tables.degree in
+      let d : Degree s = z.degree in
       let q : suc (lv - 1) ≡ lv = omega (arith, z.v_pos) in
       short_of d z.v_small (subst (λ (n : ℕ). Below (GF d) n (series d v)) q (z.rows d).t₁_below)
 
   pub cofactors_fit : lv + la ≤ l + 2
-  cofactors_fit = omega (arith, (z.rows z.tables.degree).fit₁, z.v_pos)
+  cofactors_fit = omega (arith, (z.rows z.degree).fit₁, z.v_pos)
 
-  pub reducible : 0 < lb → Reducible s la lb lv a b w v e g
+  pub reducible : 0 < lb → Reducible s la lb lv a b w v
   reducible h = record {
-    tables = z.tables;
     a_small = z.a_small;
     b_small = z.b_small;
     w_small = z.w_small;
@@ -72,10 +68,10 @@ module _ {s l la lb lv lw : ℕ} {S a b v w e g : List ℕ} (z : State s l S a b
     w_long = omega (arith, cofactors_fit, z.b_shorter, z.w_long);
   }
 
-  pub state_turn : {r : ℕ} {a' w' : List ℕ} → r < lb → length a' ≡ length a → length w' ≡ length w
-      → Reduced s (la - lb) a b w v a' w' r → State s l S b a' w' v e g lb r (lv + la - lb) lv
-  state_turn {r} {a'} {w'} q x y t = record {
-    tables = z.tables;
+  pub state_turn : {r lw' : ℕ} {a' w' : List ℕ} → r < lb → length a' ≡ length a → length w' ≡ length w → lw' ≡ lv + la - lb
+      → Reduced s (la - lb) a b w v a' w' r → State s l S b a' w' v lb r lw' lv
+  state_turn {r} {lw'} {a'} {w'} q x y i t = record {
+    degree = z.degree;
     a_small = z.b_small;
     b_small = t.a_small;
     v_small = t.w_small;
@@ -88,17 +84,16 @@ module _ {s l la lb lv lw : ℕ} {S a b v w e g : List ℕ} (z : State s l S a b
     b_length = t.a_length;
     a_most = omega (arith, z.a_most, z.b_shorter);
     b_shorter = omega arith;
-    w_shorter = omega (arith, z.b_shorter);
-    v_pos = omega (arith, z.v_pos, z.b_shorter);
-    w_pos = z.v_pos;
+    w_shorter = omega (arith, z.b_shorter, i);
+    v_pos = omega (arith, z.v_pos, z.b_shorter, i);
     rows = rows;
   }
     where
       rows : (d : Degree s)
-          → Rows (GF d) l (series d S) (series d b) (series d v) (series d a') (series d w') lb (lv - 1) r (lv + la - lb - 1)
+          → Rows (GF d) l (series d S) (series d b) (series d v) (series d a') (series d w') lb (lv - 1) r (lw' - 1)
       rows d =
           let u = t.division d in
-          let m : max (lw - 1) (la - lb + (lv - 1)) ≡ lv + la - lb - 1 = omega (arith, z.v_pos, z.b_shorter, z.w_shorter) in
+          let m : max (lw - 1) (la - lb + (lv - 1)) ≡ lw' - 1 = omega (arith, z.v_pos, z.b_shorter, z.w_shorter, i) in
           let less : r ≤ la = omega (arith, z.b_shorter) in
           let fits : la - lb + lb ≤ la = omega (arith, z.b_shorter) in
           swap (GF d)
@@ -118,16 +113,10 @@ module _ {s l la lb lv lw : ℕ} {S a b v w e g : List ℕ} (z : State s l S a b
     };
   }
 
-pub outcome_v : {s l stop n : ℕ} {S v w : List ℕ} → Solved s l stop S v n → Outcome s l stop S false n v w
-outcome_v y = record { in_lower = λ e. y; in_upper = λ e. absurd (true_ne_false e refl) }
-
-pub outcome_w : {s l stop n : ℕ} {S v w : List ℕ} → Solved s l stop S w n → Outcome s l stop S true n v w
-outcome_w y = record { in_lower = λ e. absurd (true_ne_false refl e); in_upper = λ e. y }
-
-pub state_start : {s l stop lb : ℕ} {a b v w e g : List ℕ} → Solvable s l stop a b v w e g → lb ≤ l → LengthOf b lb
-    → State s l b (set a l 1) b (set v 0 1) w e g (l + 1) lb 1 1
-state_start {s} {l} {stop} {lb} {a} {b} {v} {w} z h y = record {
-  tables = z.tables;
+pub state_start : {s l stop lb : ℕ} {a b v w : List ℕ} → Degree s → Solvable s l stop a b v w → lb ≤ l → LengthOf b lb
+    → State s l b (set a l 1) b (set v 0 1) w (l + 1) lb 1 1
+state_start {s} {l} {stop} {lb} {a} {b} {v} {w} d z h y = record {
+  degree = d;
   a_small = small_one a l z.a_long z.a_zero d;
   b_small = z.b_small;
   v_small = small_one v 0 v_pos z.v_zero d;
@@ -145,13 +134,9 @@ state_start {s} {l} {stop} {lb} {a} {b} {v} {w} z h y = record {
   b_shorter = omega arith;
   w_shorter = omega arith;
   v_pos = omega arith;
-  w_pos = omega arith;
   rows = rows;
 }
   where
-    d : Degree s
-    d = z.tables.degree
-
     v_pos : 0 < length v
     v_pos = omega (arith, z.v_long)
 
@@ -168,3 +153,6 @@ state_start {s} {l} {stop} {lb} {a} {b} {v} {w} z h y = record {
         (swap (GF d)
         (lower (GF d) h (below_of d (omega arith) y.short)
         (swap (GF d) (begin (GF d) l (series d b) (below_of d (omega arith) z.b_short)))))
+
+pub solved_as : {s l stop n : ℕ} {S t t' : List ℕ} → t ≡ t' → Solved s l stop S t n → Solved s l stop S t' n
+solved_as {s} {l} {stop} {n} {S} e z = subst (λ (x : List ℕ). Solved s l stop S x n) e z

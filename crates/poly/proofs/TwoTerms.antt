@@ -11,7 +11,7 @@ use mathlib.Core.List.{List}
 use Prim.Native.Nat.{ℕ, suc, ◌+◌, ◌-◌, ◌*◌, ◌^◌, ◌≤◌, ◌<◌}
 use native.Mathlib.Omega.{arith}
 use lib.Bits.{bit_xor}
-use lib.ListN.{get_or}
+use lib.ListN.{length, get_or, take}
 use Rattle.algebra.proofs.Series.{Ser, add_at}
 use Rattle.algebra.proofs.Poly.{Below, Below-weaken, Below-add, mono, mono_below, mono_mul_at}
 use Rattle.field.specs.Mask.{◌⊕◌}
@@ -21,22 +21,27 @@ use Rattle.field.proofs.Elements.{F, GF, el, el_add, el_mul}
 use Rattle.field.proofs.Numbers.{product_lt}
 use Rattle.poly.specs.Slice.{Short, series}
 use Rattle.poly.specs.Division.{plus, Addable, AddedTwo, LengthOf, InverseAt, Cancels, Second, Reducible, Reduced}
-use Rattle.poly.proofs.Slices.{short_of}
+use Rattle.poly.proofs.Slices.{short_of, series_cut}
 use Rattle.poly.proofs.Reducing.{by_inverse, first_term, addable_a, addable_w, struck, leading_below, more_added}
+
+added_two_whole : {s i k₀ k₁ n : ℕ} {a b a' : List ℕ} → n ≤ length b → Short n b → AddedTwo s i k₀ k₁ a (take n b) a' → AddedTwo s i k₀ k₁ a b a'
+added_two_whole {s} {i} {k₀} {k₁} {n} {a} {b} {a'} h o z = record {
+  small = z.small;
+  is = λ d. z.is d
+      ∙ ap (λ q. plus d (plus d (series d a) (mono (GF d) (i + 1) (el d (field_power s ω k₁))) q) (mono (GF d) i (el d (field_power s ω k₀))) q)
+      (series_cut h o d);
+}
 
 pub second_is : {s k la lb y : ℕ} {a b : List ℕ} → lb < la → 1 < lb → y ≡ field_multiply s (field_power s ω k) (get_or b (lb - 2) 0)
     → Second s k la lb a b (bit_xor (get_or a (la - 2) 0) y)
 unfolding ◌⊕◌
 second_is {la = la} {a = a} h q e = record { longer = h; b_two = q; is = ap (bit_xor (get_or a (la - 2) 0)) e }
 
-module _ {s la lb lv k : ℕ} {a b w v e g : List ℕ} (p : Reducible s la lb lv a b w v e g) (l : lb ≤ la)
+module _ {s la lb lv k : ℕ} {a b w v : List ℕ} (d : Degree s) (p : Reducible s la lb lv a b w v) (l : lb ≤ la)
     (o : InverseAt s k (get_or b (lb - 1) 0)) {i₁ : ℕ} (i₁_is : i₁ ≡ logarithm s (get_or a (la - 1) 0)) {y : ℕ}
     (t : Second s (i₁ + k) la lb a b y) where
-  abbrev d : Degree s
-  d = p.tables.degree
-
   one : Cancels s (i₁ + k) (get_or a (la - 1) 0) (get_or b (lb - 1) 0)
-  one = first_term p l o i₁_is
+  one = first_term d p l o i₁_is
 
   pub second_lt : y < 2 ^ s
   second_lt =
@@ -45,11 +50,11 @@ module _ {s la lb lv k : ℕ} {a b w v e g : List ℕ} (p : Reducible s la lb lv
   up : la - lb ≡ la - lb - 1 + 1
   up = omega (arith, t.longer)
 
-  pub two_addable_a : Addable s (la - lb - 1 + 1) (i₁ + k) lb a b e g
-  two_addable_a = subst (λ (j : ℕ). Addable s j (i₁ + k) lb a b e g) up (addable_a p l one)
+  pub two_addable_a : Addable s (la - lb - 1 + 1) (i₁ + k) a (take lb b)
+  two_addable_a = subst (λ (j : ℕ). Addable s j (i₁ + k) a (take lb b)) up (addable_a d p l one)
 
-  pub two_addable_w : Addable s (la - lb - 1 + 1) (i₁ + k) lv w v e g
-  two_addable_w = subst (λ (j : ℕ). Addable s j (i₁ + k) lv w v e g) up (addable_w p l one)
+  pub two_addable_w : Addable s (la - lb - 1 + 1) (i₁ + k) w (take lv v)
+  two_addable_w = subst (λ (j : ℕ). Addable s j (i₁ + k) w (take lv v)) up (addable_w d p l one)
 
   module _ (y_ne : y ≢ 0) {i₀ : ℕ} (i₀_is : i₀ ≡ logarithm s y) where
     two : Cancels s (i₀ + k) y (get_or b (lb - 1) 0)
@@ -58,9 +63,10 @@ module _ {s la lb lv k : ℕ} {a b w v e g : List ℕ} (p : Reducible s la lb lv
     pub second_log_lt : i₀ + k ≤ 2 * (2 ^ s - 1)
     second_log_lt = two.most
 
-    pub cancelled_two : {a' : List ℕ} → AddedTwo s (la - lb - 1) (i₀ + k) (i₁ + k) a b a' → Short (la - 2) a'
+    pub cancelled_two : {a' : List ℕ} → AddedTwo s (la - lb - 1) (i₀ + k) (i₁ + k) a (take lb b) a' → Short (la - 2) a'
     unfolding series
-    cancelled_two {a'} z =
+    cancelled_two {a'} z' =
+        let z : AddedTwo s (la - lb - 1) (i₀ + k) (i₁ + k) a b a' = added_two_whole p.b_long p.b_length.short z' in
         short_of d z.small
         (subst (Below (GF d) (la - 2)) (sym (z.is d)) (struck p two d (la - lb - 1) (omega (arith, t.longer, t.b_two)) mid_below mid_at))
       where
@@ -70,7 +76,7 @@ module _ {s la lb lv k : ℕ} {a b w v e g : List ℕ} (p : Reducible s la lb lv
         mid_below : Below (GF d) (suc (la - 2)) mid
         mid_below =
             Below-weaken (GF d) (omega arith)
-            (struck p one d (la - lb - 1 + 1) {m = la - 1} (omega (arith, t.longer)) (leading_below p l d) refl)
+            (struck p one d (la - lb - 1 + 1) {m = la - 1} (omega (arith, t.longer)) (leading_below d p l d) refl)
 
         mid_at : mid (la - 2) ≡ el d y
         mid_at =
@@ -82,18 +88,21 @@ module _ {s la lb lv k : ℕ} {a b w v e g : List ℕ} (p : Reducible s la lb lv
             ∙ sym (el_mul d (field_power s ω (i₁ + k)) (get_or b (lb - 2) 0)))
             ∙ sym (el_add d (get_or a (la - 2) 0) _) ∙ ap (el d) (sym t.is)
 
-  pub reduced_two : {i₀ r : ℕ} {a' w' : List ℕ} → AddedTwo s (la - lb - 1) i₀ (i₁ + k) a b a'
-      → AddedTwo s (la - lb - 1) i₀ (i₁ + k) w v w' → LengthOf a' r → Reduced s (la - lb) a b w v a' w' r
-  reduced_two {i₀} x z h = record {
-    a_small = x.small;
-    w_small = z.small;
-    division = λ d. record {
-      quotient = (Ser (GF d)).add (mono (GF d) (la - lb - 1 + 1) (el d (field_power s ω (i₁ + k))))
-          (mono (GF d) (la - lb - 1) (el d (field_power s ω i₀)));
-      quotient_below = Below-add (GF d) (Below-weaken (GF d) (omega (arith, up)) (mono_below (GF d) (la - lb - 1 + 1) _))
-          (Below-weaken (GF d) (omega (arith, up)) (mono_below (GF d) (la - lb - 1) _));
-      a_is = x.is d ∙ more_added (Ser (GF d)) _ _ _ _;
-      w_is = z.is d ∙ more_added (Ser (GF d)) _ _ _ _;
-    };
-    a_length = h;
-  }
+  pub reduced_two : {i₀ r : ℕ} {a' w' : List ℕ} → AddedTwo s (la - lb - 1) i₀ (i₁ + k) a (take lb b) a'
+      → AddedTwo s (la - lb - 1) i₀ (i₁ + k) w (take lv v) w' → LengthOf a' r → Reduced s (la - lb) a b w v a' w' r
+  reduced_two {i₀} {a' = a'} {w'} x' z' h =
+      let x : AddedTwo s (la - lb - 1) i₀ (i₁ + k) a b a' = added_two_whole p.b_long p.b_length.short x' in
+      let z : AddedTwo s (la - lb - 1) i₀ (i₁ + k) w v w' = added_two_whole p.v_long p.v_short z' in
+      record {
+        a_small = x.small;
+        w_small = z.small;
+        division = λ d. record {
+          quotient = (Ser (GF d)).add (mono (GF d) (la - lb - 1 + 1) (el d (field_power s ω (i₁ + k))))
+              (mono (GF d) (la - lb - 1) (el d (field_power s ω i₀)));
+          quotient_below = Below-add (GF d) (Below-weaken (GF d) (omega (arith, up)) (mono_below (GF d) (la - lb - 1 + 1) _))
+              (Below-weaken (GF d) (omega (arith, up)) (mono_below (GF d) (la - lb - 1) _));
+          a_is = x.is d ∙ more_added (Ser (GF d)) _ _ _ _;
+          w_is = z.is d ∙ more_added (Ser (GF d)) _ _ _ _;
+        };
+        a_length = h;
+      }

@@ -1,7 +1,7 @@
 -- Division of polynomials in slices, with cofactors. A row of Euclid's algorithm is a remainder and its cofactor.
 --
 --   plus d p q r              the series p + q r
---   Addable s i k n a b e g   what adding ω^k x^i b to a asks for, where b has n coefficients
+--   Addable s i k a b         what adding ω^k x^i b to a asks for
 --   Added s i k a b a'        a' = a + ω^k x^i b
 --   AddedTwo s i k₀ k₁ a b a' a' = a + (ω^k₁ x + ω^k₀) x^i b
 --   LengthOf a r              r is one more than the degree of a, and 0 where a is 0
@@ -11,27 +11,27 @@
 --   Reducible ..              the row (a, w) can be divided by the row (b, v)
 --   RowDivision d k ..           one hidden quotient, of degree at most k, leads from (a, w) to (a', w')
 --   Reduced ..                what that leaves, and the length r of a'
+--   RowReducible s a b, RowReduced s a b a'      so for the row a and the divisor's b, and what a is then
+--   Kept a a'                 a row in the same slices, which keep their lengths, and the cofactor its number of coefficients
 use Rattle.std.specs.Prelude.{◌≡◌, ◌≢◌, List, ℕ, suc, ◌+◌, ◌-◌, ◌*◌, ◌^◌, ◌≤◌, ◌<◌, length, get_or}
 use Rattle.algebra.proofs.Series.{Ser}
 use Rattle.algebra.proofs.Poly.{Below, mono}
 use Rattle.field.specs.Mask.{◌⊕◌}
 use Rattle.field.specs.Field.{Degree, ω, field_multiply, field_power}
 use Rattle.field.proofs.Elements.{F, GF, el}
-use Rattle.field.specs.Tables.{Tables}
+use Rattle.poly.specs.declared.types.Divisor.{Divisor}
+use Rattle.poly.specs.declared.types.Row.{Row}
 use Rattle.poly.specs.Slice.{Small, Short, series}
 
 abbrev pub plus : {s : ℕ} → Degree s → (ℕ → F s) → (ℕ → F s) → (ℕ → F s) → ℕ → F s
 plus d p q r = (Ser (GF d)).add p ((Ser (GF d)).mul q r)
 
 -- ---- one term of a quotient
-pub record Addable (s i k n : ℕ) (a b e g : List ℕ) : Type 0 where
-  pub tables : Tables s e g
+pub record Addable (s i k : ℕ) (a b : List ℕ) : Type 0 where
   pub k_most : k ≤ 2 * (2 ^ s - 1)
   pub a_small : Small s a
   pub b_small : Small s b
-  pub b_short : Short n b
-  pub a_long : i + n ≤ length a
-  pub b_long : n ≤ length b
+  pub a_long : i + length b ≤ length a
 
 pub record Added (s i k : ℕ) (a b a' : List ℕ) : Type 0 where
   pub small : Small s a'
@@ -62,8 +62,7 @@ pub record Second (s k la lb : ℕ) (a b : List ℕ) (c : ℕ) : Type 0 where
   pub is : c ≡ get_or a (la - 2) 0 ⊕ field_multiply s (field_power s ω k) (get_or b (lb - 2) 0)
 
 -- ---- a whole quotient
-pub record Reducible (s la lb lv : ℕ) (a b w v e g : List ℕ) : Type 0 where
-  pub tables : Tables s e g
+pub record Reducible (s la lb lv : ℕ) (a b w v : List ℕ) : Type 0 where
   pub a_small : Small s a
   pub b_small : Small s b
   pub w_small : Small s w
@@ -88,3 +87,17 @@ pub record Reduced (s k : ℕ) (a b w v a' w' : List ℕ) (r : ℕ) : Type 0 whe
   pub w_small : Small s w'
   pub division : (d : Degree s) → RowDivision d k a b w v a' w'
   pub a_length : LengthOf a' r
+
+-- ---- rows
+abbrev pub RowReducible : ℕ → Row → Divisor → Type 0
+RowReducible s a b = Reducible s a.len b.len b.cofactor_len a.remainder.now b.remainder.now a.cofactor.now b.cofactor.now
+
+abbrev pub RowReduced : ℕ → Row → Divisor → Row → Type 0
+RowReduced s a b a' = Reduced s (a.len - b.len) a.remainder.now b.remainder.now a.cofactor.now b.cofactor.now a'.remainder.now a'.cofactor.now a'.len
+
+pub record Kept (a a' : Row) : Type 0 where
+  pub same_remainder : a'.remainder.ghost_name ≡ a.remainder.ghost_name
+  pub same_cofactor : a'.cofactor.ghost_name ≡ a.cofactor.ghost_name
+  pub remainder_long : length a'.remainder.now ≡ length a.remainder.now
+  pub cofactor_long : length a'.cofactor.now ≡ length a.cofactor.now
+  pub cofactor_len : a'.cofactor_len ≡ a.cofactor_len

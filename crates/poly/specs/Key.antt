@@ -1,18 +1,18 @@
 -- The key equation Λ S = Ω modulo x^l in slices: what Euclid's algorithm asks for, and the solution that it leaves.
 --
---   Solvable s l stop a b v w e g     b holds the series S below l; a, v and w hold 0, and all four are long enough
+--   Solvable s l stop a b v w         b holds the series S below l; a, v and w hold 0, and all four are long enough
 --   Key d l stop S t n                t is the cofactor of a remainder of at most stop coefficients, and has n of its own
 --   Solved s l stop S t n             the slice t holds that cofactor in its first n places, in every field of degree s
---   Outcome s l stop S upper n v w   it is in w where upper, and else in v
-use Rattle.std.specs.Prelude.{◌≡◌, Bool, true, false, List, ℕ, ◌≤◌, ◌<◌, length}
+--   Outcome s l stop S r v w         r says whether it is in v or in w, and n
+use Rattle.std.specs.Prelude.{◌≡◌, List, ℕ, ◌≤◌, ◌<◌, length}
 use Rattle.algebra.proofs.Rows.{Done}
 use Rattle.field.specs.Field.{Degree}
 use Rattle.field.proofs.Elements.{GF}
-use Rattle.field.specs.Tables.{Tables}
+use Rattle.poly.specs.declared.types.Locator.{Locator}
+use Rattle.poly.specs.declared.types.Locator.TheVariants.{Lower, Upper}
 use Rattle.poly.specs.Slice.{Small, Short, series}
 
-pub record Solvable (s l stop : ℕ) (a b v w e g : List ℕ) : Type 0 where
-  pub tables : Tables s e g
+pub record Solvable (s l stop : ℕ) (a b v w : List ℕ) : Type 0 where
   pub b_small : Small s b
   pub b_short : Short l b
   pub a_zero : Short 0 a
@@ -36,6 +36,6 @@ pub record Solved (s l stop : ℕ) (S t : List ℕ) (n : ℕ) : Type 0 where
   pub long : n ≤ length t
   pub key : (d : Degree s) → Key d l stop S t n
 
-pub record Outcome (s l stop : ℕ) (S : List ℕ) (upper : Bool) (n : ℕ) (v w : List ℕ) : Type 0 where
-  pub in_lower : upper ≡ false → Solved s l stop S v n
-  pub in_upper : upper ≡ true → Solved s l stop S w n
+abbrev pub Outcome : ℕ → ℕ → ℕ → List ℕ → Locator → List ℕ → List ℕ → Type 0
+Outcome s l stop S (Lower n) v w = Solved s l stop S v n
+Outcome s l stop S (Upper n) v w = Solved s l stop S w n

@@ -1,177 +1,107 @@
 // Division with remainder, the cofactors kept in step: leading terms cancelled, one or two at a time. A row is a remainder with its
-// cofactor; what is added to one is added to the other. Lengths are numbers of coefficients.
-ghost use Rattle.std.specs.Prelude.{◌≢◌, ◌-◌, ◌<◌, ◌≤◌, get_or};
-ghost use Rattle.poly.specs.Division.{Addable, Second, Reducible, Reduced, InverseAt};
+// cofactor; what is added to one is added to the other. Lengths are numbers of coefficients. `RowReducible` stands in each contract: it is a
+// fact of two rows and the field's degree, and a row, which is written through its `&mut`s, can carry none.
+ghost use Rattle.std.specs.Prelude.{◌≡◌, ◌≢◌, ◌-◌, ◌*◌, ◌^◌, ◌<◌, ◌≤◌, get_or};
+ghost use Rattle.poly.specs.Division.{Second, RowReducible, RowReduced, Kept, InverseAt};
 
-use crate::row::{add_scaled, add_two, length_of};
-use field::logarithm::{divide, inverse, log, scaled};
-use field::types::Quotient;
+use crate::row::{add_scaled, add_two};
+use crate::types::{Divisor, Row};
+use field::tables::FieldTables;
 
 // One term of the quotient: the multiple of the divisor's row that takes the dividend's leading coefficient away is added to the
-// dividend's row. The divisor's leading coefficient is not 0, so the quotient is there. The length that the dividend has then.
-fn cancel_leading(
-    s: usize,
-    dividend: &mut [u16],
-    dividend_len: usize,
-    divisor: &[u16],
-    divisor_len: usize,
-    dividend_cofactor: &mut [u16],
-    divisor_cofactor: &[u16],
-    cofactor_len: usize,
-    powers: &[u16],
-    logs: &[u16],
-) -> usize
-    requires { Reducible s dividend_len divisor_len cofactor_len dividend.old divisor.now dividend_cofactor.old divisor_cofactor.now powers.now logs.now × (divisor_len ≤ dividend_len) }
-    ensures { (result < dividend_len) × Reduced s (dividend_len - divisor_len) dividend.old divisor.now dividend_cofactor.old divisor_cofactor.now
-        dividend.new dividend_cofactor.new result }
+// dividend's row. The divisor's leading coefficient is not 0, so the quotient is there.
+fn cancel_leading(tables: &FieldTables, dividend: &mut Row, divisor: &Divisor)
+    requires { RowReducible tables.now.s dividend.old divisor.now × (divisor.now.len ≤ dividend.old.len) }
+    ensures kept { Kept dividend.old dividend.new }
+    ensures shorter { dividend.new.len < dividend.old.len }
+    ensures reduced { RowReduced tables.now.s dividend.old divisor.now dividend.new }
 {
-    let top = dividend[dividend_len - 1];
-    let lead = divisor[divisor_len - 1];
-    let Quotient::Of(x) = divide(s, top, lead, powers, logs) else {
-        return 0;
+    let len = dividend.len;
+    let i = len - divisor.len;
+    let lead = divisor.remainder[divisor.len - 1];
+    let Some(x) = tables.divide(dividend.remainder[len - 1], lead) else {
+        return;
     };
-    let q = log(s, x, powers, logs);
-    let i = dividend_len - divisor_len;
-    add_scaled(s, dividend, i, q, divisor, divisor_len, powers, logs);
+    let q = tables.log(x);
     add_scaled(
-        s,
-        dividend_cofactor,
+        tables,
+        dividend.remainder,
         i,
         q,
-        divisor_cofactor,
-        cofactor_len,
-        powers,
-        logs,
+        &divisor.remainder[..divisor.len],
     );
-    length_of(dividend, dividend_len - 1)
+    add_scaled(
+        tables,
+        dividend.cofactor,
+        i,
+        q,
+        &divisor.cofactor[..divisor.cofactor_len],
+    );
+    dividend.len = dividend.length_below(len - 1);
 }
 
 // The second coefficient from the top after ω^k x^i times the divisor is added, i being by how much it is shorter: a second term of
 // the quotient takes it away. It is 0 also where only one term is taken: both are equally long, or the divisor is a constant.
-fn second_leading(
-    s: usize,
-    k: usize,
-    dividend: &[u16],
-    dividend_len: usize,
-    divisor: &[u16],
-    divisor_len: usize,
-    powers: &[u16],
-    logs: &[u16],
-) -> u16
-    requires { Addable s (dividend_len - divisor_len) k divisor_len dividend.now divisor.now powers.now logs.now × (divisor_len ≤ dividend_len) }
-    ensures { result ≢ 0 → Second s k dividend_len divisor_len dividend.now divisor.now result }
+fn second_leading(tables: &FieldTables, k: usize, dividend: &Row, divisor: &Divisor) -> u16
+    requires { RowReducible tables.now.s dividend.now divisor.now × (divisor.now.len ≤ dividend.now.len) × (k ≤ 2 * (2 ^ tables.now.s - 1)) }
+    ensures { result ≢ 0 → Second tables.now.s k dividend.now.len divisor.now.len dividend.now.remainder.now divisor.now.remainder.now result }
 {
-    if dividend_len == divisor_len {
+    if dividend.len == divisor.len || divisor.len < 2 {
         return 0;
     }
-    if divisor_len < 2 {
-        return 0;
-    }
-    let y = scaled(s, k, divisor[divisor_len - 2], powers, logs);
-    dividend[dividend_len - 2] ^ y
+    dividend.remainder[dividend.len - 2] ^ tables.scaled(k, divisor.remainder[divisor.len - 2])
 }
 
 // Two terms of the quotient in one pass where there is a second one, and else one: in most divisions of Euclid's algorithm the
-// dividend is longer by one, so that two are all. ω^k is the inverse of the divisor's leading coefficient. The length that the
-// dividend has then.
-pub fn cancel_terms(
-    s: usize,
-    dividend: &mut [u16],
-    dividend_len: usize,
-    divisor: &[u16],
-    divisor_len: usize,
-    dividend_cofactor: &mut [u16],
-    divisor_cofactor: &[u16],
-    cofactor_len: usize,
-    k: usize,
-    powers: &[u16],
-    logs: &[u16],
-) -> usize
-    requires { Reducible s dividend_len divisor_len cofactor_len dividend.old divisor.now dividend_cofactor.old divisor_cofactor.now powers.now logs.now × (divisor_len ≤ dividend_len)
-        × InverseAt s k (get_or divisor.now (divisor_len - 1) 0) }
-    ensures { (result < dividend_len) × Reduced s (dividend_len - divisor_len) dividend.old divisor.now dividend_cofactor.old divisor_cofactor.now
-        dividend.new dividend_cofactor.new result }
+// dividend is longer by one, so that two are all. ω^k is the inverse of the divisor's leading coefficient.
+pub fn cancel_terms(tables: &FieldTables, k: usize, dividend: &mut Row, divisor: &Divisor)
+    requires { RowReducible tables.now.s dividend.old divisor.now × (divisor.now.len ≤ dividend.old.len)
+        × InverseAt tables.now.s k (get_or divisor.now.remainder.now (divisor.now.len - 1) 0) }
+    ensures kept { Kept dividend.old dividend.new }
+    ensures shorter { dividend.new.len < dividend.old.len }
+    ensures reduced { RowReduced tables.now.s dividend.old divisor.now dividend.new }
 {
-    let k1 = log(s, dividend[dividend_len - 1], powers, logs) + k;
-    let y = second_leading(
-        s,
-        k1,
-        dividend,
-        dividend_len,
-        divisor,
-        divisor_len,
-        powers,
-        logs,
-    );
+    let len = dividend.len;
+    let k1 = tables.log(dividend.remainder[len - 1]) + k;
+    let y = second_leading(tables, k1, dividend, divisor);
     if y == 0 {
-        return cancel_leading(
-            s,
-            dividend,
-            dividend_len,
-            divisor,
-            divisor_len,
-            dividend_cofactor,
-            divisor_cofactor,
-            cofactor_len,
-            powers,
-            logs,
-        );
+        cancel_leading(tables, dividend, divisor);
+        return;
     }
-    let k0 = log(s, y, powers, logs) + k;
-    let i = dividend_len - divisor_len - 1;
-    add_two(s, dividend, i, k0, k1, divisor, divisor_len, powers, logs);
+    let k0 = tables.log(y) + k;
+    let i = len - divisor.len - 1;
     add_two(
-        s,
-        dividend_cofactor,
+        tables,
+        dividend.remainder,
         i,
         k0,
         k1,
-        divisor_cofactor,
-        cofactor_len,
-        powers,
-        logs,
+        &divisor.remainder[..divisor.len],
     );
-    length_of(dividend, dividend_len - 2)
+    add_two(
+        tables,
+        dividend.cofactor,
+        i,
+        k0,
+        k1,
+        &divisor.cofactor[..divisor.cofactor_len],
+    );
+    dividend.len = dividend.length_below(len - 2);
 }
 
 // Euclid's step: the dividend's row to its remainder by the divisor's, and its length. A leading coefficient is not 0, so its inverse
-// is there.
-pub fn reduce(
-    s: usize,
-    dividend: &mut [u16],
-    dividend_len: usize,
-    divisor: &[u16],
-    divisor_len: usize,
-    dividend_cofactor: &mut [u16],
-    divisor_cofactor: &[u16],
-    cofactor_len: usize,
-    powers: &[u16],
-    logs: &[u16],
-) -> usize
-    requires { Reducible s dividend_len divisor_len cofactor_len dividend.old divisor.now dividend_cofactor.old divisor_cofactor.now powers.now logs.now }
-    ensures { (result < divisor_len) × Reduced s (dividend_len - divisor_len) dividend.old divisor.now dividend_cofactor.old divisor_cofactor.now
-        dividend.new dividend_cofactor.new result }
+// is there. How many coefficients the cofactor may have then is the caller's to say.
+pub fn reduce(tables: &FieldTables, dividend: &mut Row, divisor: &Divisor)
+    requires { RowReducible tables.now.s dividend.old divisor.now }
+    ensures kept { Kept dividend.old dividend.new }
+    ensures shorter { dividend.new.len < divisor.now.len }
+    ensures reduced { RowReduced tables.now.s dividend.old divisor.now dividend.new }
 {
-    let top = divisor[divisor_len - 1];
-    let Quotient::Of(x) = inverse(s, top, powers, logs) else {
-        return 0;
+    let Some(x) = tables.inverse(divisor.remainder[divisor.len - 1]) else {
+        return;
     };
-    let k = log(s, x, powers, logs);
-    let mut len = dividend_len;
-    while divisor_len <= len {
-        len = cancel_terms(
-            s,
-            dividend,
-            len,
-            divisor,
-            divisor_len,
-            dividend_cofactor,
-            divisor_cofactor,
-            cofactor_len,
-            k,
-            powers,
-            logs,
-        );
+    let k = tables.log(x);
+    while divisor.len <= dividend.len {
+        cancel_terms(tables, k, dividend, divisor);
     }
-    len
 }

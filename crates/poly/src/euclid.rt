@@ -3,69 +3,49 @@ ghost use Rattle.poly.specs.Key.{Solvable, Outcome};
 
 use crate::division::reduce;
 use crate::row::length_of;
-use crate::types::LocatorRow;
+use crate::types::{Locator, Row};
+use field::tables::FieldTables;
 
 // Euclid's algorithm on x^l, above, and what the lower slice holds, until a remainder has at most `stop` coefficients: its cofactor
 // is what is asked for, and the locator up to a constant factor where at most t places are wrong. The rows take turns, so that
 // nothing is copied.
 pub fn euclid(
-    s: usize,
+    tables: &FieldTables,
     upper: &mut [u16],
     lower: &mut [u16],
     lower_cofactor: &mut [u16],
     upper_cofactor: &mut [u16],
     l: usize,
     stop: usize,
-    powers: &[u16],
-    logs: &[u16],
-) -> LocatorRow
-    requires { Solvable s l stop upper.old lower.old lower_cofactor.old upper_cofactor.old powers.now logs.now }
-    ensures { Outcome s l stop lower.old result.upper result.len lower_cofactor.new upper_cofactor.new }
+) -> Locator
+    requires { Solvable tables.now.s l stop upper.old lower.old lower_cofactor.old upper_cofactor.old }
+    ensures { Outcome tables.now.s l stop lower.old result lower_cofactor.new upper_cofactor.new }
 {
     upper[l] = 1;
     lower_cofactor[0] = 1;
-    let mut upper_len = l + 1;
-    let mut lower_len = length_of(lower, l);
-    let mut lower_cofactor_len: usize = 1;
-    let mut upper_cofactor_len: usize = 1;
+    let lower_len = length_of(&lower[..l]);
+    let mut upper = Row {
+        remainder: upper,
+        len: l + 1,
+        cofactor: upper_cofactor,
+        cofactor_len: 1,
+    };
+    let mut lower = Row {
+        remainder: lower,
+        len: lower_len,
+        cofactor: lower_cofactor,
+        cofactor_len: 1,
+    };
     loop {
-        if lower_len <= stop {
-            return LocatorRow {
-                upper: false,
-                len: lower_cofactor_len,
-            };
+        if lower.len <= stop {
+            return Locator::Lower(lower.cofactor_len);
         }
-        upper_cofactor_len = lower_cofactor_len + upper_len - lower_len;
-        upper_len = reduce(
-            s,
-            upper,
-            upper_len,
-            lower,
-            lower_len,
-            upper_cofactor,
-            lower_cofactor,
-            lower_cofactor_len,
-            powers,
-            logs,
-        );
-        if upper_len <= stop {
-            return LocatorRow {
-                upper: true,
-                len: upper_cofactor_len,
-            };
+        upper.cofactor_len = lower.cofactor_len + upper.len - lower.len;
+        reduce(tables, &mut upper, &lower.divisor());
+        if upper.len <= stop {
+            return Locator::Upper(upper.cofactor_len);
         }
-        lower_cofactor_len = upper_cofactor_len + lower_len - upper_len;
-        lower_len = reduce(
-            s,
-            lower,
-            lower_len,
-            upper,
-            upper_len,
-            lower_cofactor,
-            upper_cofactor,
-            upper_cofactor_len,
-            powers,
-            logs,
-        );
+        lower.cofactor_len = upper.cofactor_len + lower.len - upper.len;
+        reduce(tables, &mut lower, &upper.divisor());
     }
 }

@@ -1,7 +1,7 @@
 // Polynomials over the field in lent slices, and Euclid's algorithm on them, which solves the key equation.
 #![tactic(auto)]
 
-// where the locator stands
+// Euclid's rows, and where the locator stands
 pub mod types;
 
 // multiples added in place; the length of a polynomial

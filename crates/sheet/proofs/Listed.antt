@@ -1,9 +1,9 @@
 -- The loop over the representatives: refusal 5, and D marked coset by coset.
 --
 --   MarkedUpTo i least z        the first i representatives are right, and z marks their cosets
---   listed_start, listed_more, listed_end      the loop
+--   listed_more, listed_end      the loop
 --   wrong_range, wrong_order, wrong_coset      its exits
---   Walk, walk_start .. walk_end      the same with s, as the code holds it
+--   Walk, walk_range .. walk_end      the same with s, as the code holds it
 use mathlib.Core.Path.{◌≡◌, refl, sym, ap, ap₂, ◌∙◌, subst}
 use mathlib.Core.Logic.{◌≢◌}
 use mathlib.Core.Bool.{Bool, true, false, not, ◌||◌, ◌&&◌}
@@ -42,14 +42,6 @@ module _ (n : ℕ) (reps : List ℕ) where
     pub first : i ≡ 0 → least ≡ 0
     pub later : 0 < i → least ≡ suc (rep reps (i - 1))
     pub marks : Marks n (take i reps) z
-
-  pub listed_start : {z : List ℕ} → Marks n [] z → MarkedUpTo 0 0 z
-  listed_start m = record {
-    right = λ k h. absurd (omega arith);
-    first = λ e. refl;
-    later = λ h. absurd (omega arith);
-    marks = m;
-  }
 
   found : {i : ℕ} → i < length reps → wrong n reps i ≡ true → true ≡ wrong_representative n reps
   found {i} h e = sym (wrong_is n reps ∙ some_of (wrong n reps) (length reps) i h e)
@@ -154,18 +146,12 @@ pub record Walk (n s : ℕ) (reps : List ℕ) (i least : ℕ) (z : List ℕ) : T
   pub listed : MarkedUpTo n reps i least z
 
 module _ {n s : ℕ} {reps : List ℕ} where
-  pub walk_start : {z : List ℕ} → OddLength n → s ≡ order_of_two n → Marks n [] z → Walk n s reps 0 0 z
-  walk_start o e m = record { odd = o; s_is = e; listed = listed_start n reps m }
-
   module _ {i least : ℕ} {z : List ℕ} (w : Walk n s reps i least z) where
     pub walk_range : i < length reps → n ≤ rep reps i → SetMarked n reps z true
     walk_range h l = refuse n reps (wrong_range n reps {i = i} h l)
 
     pub walk_order : i < length reps → rep reps i < least → SetMarked n reps z true
     walk_order h l = refuse n reps (wrong_order n reps h w.listed l)
-
-    pub walk_mark : {r : ℕ} → r < n → OddLength n × (s ≡ order_of_two n) × (r < n) × (n ≤ length z)
-    walk_mark h = (w.odd, w.s_is, h, w.listed.marks.long)
 
     pub walk_coset : {low : ℕ} {z' : List ℕ} → i < length reps → Marked n (rep reps i) z z' low → low ≢ 0 → SetMarked n reps z' true
     walk_coset h m k = refuse n reps (wrong_coset n reps {i = i} h (m.not_smallest k))

@@ -9,16 +9,21 @@ use Prim.Native.Nat.{ℕ, suc, ◌+◌, ◌*◌, ◌%◌, ◌^◌, ◌≤◌, �
 use native.Mathlib.Decide.{ℕ_discrete, dec_lt}
 use native.Mathlib.Numerals.{add-one}
 use native.Mathlib.Omega.{arith}
-use lib.Dec.{eqb, leb}
+use lib.Dec.{eqb, leb, ltb}
 use lib.ListN.{length, get_or, set}
 use lib.Seq.{get_or-set_same, get_or-set_other}
 use borrow.Author.Tests.{eqb-true, eqb-false, eq-eqb, ne_eqb, leb-true, le-leb, lt-leb, lt-ltb, le-ltb}
-use Rattle.field.specs.Search.{up_to, some, every, bit}
+use Rattle.std.specs.Int.{from_bool}
+use Rattle.field.specs.Search.{up_to, some, every}
 use Rattle.field.specs.Field.{OddLength, order_of_two}
 use Rattle.field.proofs.Search.{true_ne_false, some_at, some_of, some_suc, some_zero, every_at, every_of, every_suc, every_zero}
 use Rattle.document.specs.Coset.{in_coset, smallest}
 use Rattle.document.proofs.Cosets.{bool_eq, coset_at, coset_of, smallest_at, smallest_of}
-use Rattle.sheet.specs.Stage.{is_below, Marked}
+use Rattle.sheet.specs.Stage.{Marked}
+
+-- 1 where x is below r, else 0
+abbrev pub is_below : ℕ → ℕ → ℕ
+is_below x r = from_bool (ltb x r)
 
 abbrev met : ℕ → ℕ → ℕ → ℕ → Bool
 met n r j i = some (λ k. eqb (r * 2 ^ k % n) i) (up_to j)
@@ -31,6 +36,9 @@ pub record Turned (n r j : ℕ) (z z' : List ℕ) (low : ℕ) : Type 0 where
   pub outside : (i : ℕ) → met n r j i ≡ false → get_or z' i 0 ≡ get_or z i 0
   pub none_low : low ≡ 0 → least n r j ≡ true
   pub some_low : low ≢ 0 → least n r j ≡ false
+
+pub is_below_le : (x r : ℕ) → is_below x r ≤ 1
+is_below_le x r = elim (ltb x r) as (λ b. from_bool b ≤ 1) [ true ↦ omega arith | false ↦ omega arith ]
 
 pub turned_start : {n r : ℕ} {z : List ℕ} → Turned n r 0 z z 0
 turned_start {n} {r} = record {
@@ -71,8 +79,8 @@ turned_more {n} {r} {j} {x} {low} {z} {z'} long h q t = record {
         get_or-set_other z' x i 1 0 (λ p. eqb-false (r * 2 ^ j % n) i b.1 (sym q ∙ sym p)) ∙ t.outside i b.0
 
     low_cases : (Dec (x < r)) → ((is_below x r ≡ 0) × (leb r (r * 2 ^ j % n) ≡ true)) ⊎ ((is_below x r ≡ 1) × (leb r (r * 2 ^ j % n) ≡ false))
-    low_cases (yes l) = inr (ap bit (lt-ltb x r l), subst (λ (y : ℕ). leb r y ≡ false) q (lt-leb r x l))
-    low_cases (no l) = inl (ap bit (le-ltb x r (omega arith)), subst (λ (y : ℕ). leb r y ≡ true) q (le-leb r x (omega arith)))
+    low_cases (yes l) = inr (ap from_bool (lt-ltb x r l), subst (λ (y : ℕ). leb r y ≡ false) q (lt-leb r x l))
+    low_cases (no l) = inl (ap from_bool (le-ltb x r (omega arith)), subst (λ (y : ℕ). leb r y ≡ true) q (le-leb r x (omega arith)))
 
     all : low + is_below x r ≡ 0 → least n r (suc j) ≡ true
     all e = elim (low_cases (dec_lt x r)) [

@@ -7,7 +7,7 @@ pub fn byte(sheet: &[u8], i: usize) -> usize
     requires { i < length sheet.now }
     ensures { (result ≡ byte_at sheet.now i) × (result < 256) }
 {
-    sheet[i] as usize
+    usize::from(sheet[i])
 }
 
 // A 16-bit number, low byte first.
@@ -15,7 +15,7 @@ pub fn number(sheet: &[u8], i: usize) -> usize
     requires { i + 1 < length sheet.now }
     ensures { (result ≡ number_at sheet.now i) × (result < 65536) }
 {
-    byte(sheet, i) + 256 * byte(sheet, i + 1)
+    usize::from(u16::from_le_bytes([sheet[i], sheet[i + 1]]))
 }
 
 // Refusal 1.
@@ -23,16 +23,7 @@ pub fn wrong_length(sheet: &[u8]) -> bool
     ensures { result ≡ wrong_length short sheet.now }
 {
     let len = sheet.len();
-    if len < 10 {
-        return true;
-    }
-    if 74 < len {
-        return true;
-    }
-    if number(sheet, 0) != len {
-        return true;
-    }
-    false
+    len < 10 || 74 < len || number(sheet, 0) != len
 }
 
 // n.
@@ -47,16 +38,7 @@ pub fn code_length(sheet: &[u8]) -> usize
 pub fn wrong_code_length(n: usize) -> bool
     ensures { result ≡ wrong_code_length short n }
 {
-    if n % 2 == 0 {
-        return true;
-    }
-    if n < 3 {
-        return true;
-    }
-    if 127 < n {
-        return true;
-    }
-    false
+    n % 2 == 0 || n < 3 || 127 < n
 }
 
 // Refusal 4.
@@ -66,26 +48,11 @@ pub fn wrong_header(sheet: &[u8]) -> bool
 {
     let reps = byte(sheet, 3);
     let certs = byte(sheet, 6);
-    if 32 < reps {
-        return true;
-    }
-    if number(sheet, 4) != 10 {
-        return true;
-    }
-    if certs < 1 {
-        return true;
-    }
-    if 4 < certs {
-        return true;
-    }
-    if byte(sheet, 7) != 0 {
-        return true;
-    }
-    if number(sheet, 8) != 10 + reps {
-        return true;
-    }
-    if sheet.len() != 10 + reps + 8 * certs {
-        return true;
-    }
-    false
+    32 < reps
+        || number(sheet, 4) != 10
+        || certs < 1
+        || 4 < certs
+        || byte(sheet, 7) != 0
+        || number(sheet, 8) != 10 + reps
+        || sheet.len() != 10 + reps + 8 * certs
 }

@@ -10,8 +10,5 @@ pub mod header;
 // what such a sheet states, read
 pub mod read;
 
-// the certificates read, by their index
-pub mod certificates;
-
 // refusal 5; D marked, and its size
 pub mod cosets;

@@ -1,11 +1,12 @@
-// What a sheet of document 01's kind states, read from its bytes: its representatives and certificates, 16-bit numbers in lent slices.
+// What a sheet of document 01's kind states, read from its bytes: its representatives and certificates, in lent slices.
+// `Counted short sheet.now` stands in each contract here: it is a fact of the sheet's bytes, which are read by their places; a struct of them
+// would be opened for that in each.
 ghost use Rattle.std.specs.Prelude.{◌≡◌, ◌≤◌, ◌<◌, ◌*◌, length};
 ghost use Rattle.document.specs.Sheet.{certificate_at};
 ghost use Rattle.document.specs.Short.{short, stated};
 ghost use Rattle.document.proofs.Stated.{Counted};
 ghost use Rattle.sheet.specs.Stage.{certificate_as, RepresentativesRead, CertificatesRead};
 
-use crate::certificates::put_certificate;
 use crate::header::{byte, number};
 use crate::types::Certificate;
 
@@ -23,10 +24,8 @@ pub fn read_representatives(sheet: &[u8], representatives: &mut [u16])
     ensures { RepresentativesRead (stated sheet.now) representatives.new }
 {
     let count = byte(sheet, 3);
-    let mut i: usize = 0;
-    while i < count {
-        representatives[i] = sheet[10 + i] as u16;
-        i = i + 1;
+    for (i, r) in representatives[..count].iter_mut().enumerate() {
+        *r = u16::from(sheet[10 + i]);
     }
 }
 
@@ -52,16 +51,14 @@ pub fn read_certificate(sheet: &[u8], i: usize) -> Certificate
     }
 }
 
-// All certificates, six numbers for each, to the front of a slice; how many there are.
-pub fn read_certificates(sheet: &[u8], certificates: &mut [u16]) -> usize
-    requires { Counted short sheet.now × (24 ≤ length certificates.old) }
+// All certificates, to the front of a slice; how many there are. The slice is lent, as there is no heap; the caller cuts off so many.
+pub fn read_certificates(sheet: &[u8], certificates: &mut [Certificate]) -> usize
+    requires { Counted short sheet.now × (4 ≤ length certificates.old) }
     ensures { CertificatesRead (stated sheet.now) certificates.new result }
 {
     let count = byte(sheet, 6);
-    let mut i: usize = 0;
-    while i < count {
-        put_certificate(certificates, i, read_certificate(sheet, i));
-        i = i + 1;
+    for (i, c) in certificates[..count].iter_mut().enumerate() {
+        *c = read_certificate(sheet, i);
     }
     count
 }

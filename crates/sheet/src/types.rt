@@ -1,5 +1,5 @@
 // A certificate as the sheet states it: 16-bit numbers in every kind of sheet.
-#[derive(Clone, Copy)]
+#[derive(Clone, Copy, Default)]
 pub struct Certificate {
     pub b: u16,
     pub z: u16,

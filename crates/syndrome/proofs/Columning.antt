@@ -143,10 +143,9 @@ four_lt {s} d h =
     mul-le-mul {n₁ = 2 ^ s - 1} {m₁ = 4} {n₂ = 2 ^ s - 1} {m₂ = 2 ^ s} (omega arith) (Degree-bounds d).0 in
     omega arith
 
-pub power_fits : {b s by i x y : ℕ} {col e : List ℕ} (n : ℕ) → Summable b s by col e → i < b → x ≡ y → y ≡ field_power s ω n
+pub power_fits : {s by i x y : ℕ} {col : List ℕ} (n : ℕ) → Degree s → Summable s by col → i < length col → x ≡ y → y ≡ field_power s ω n
     → get_or col i 0 * x < 2 ^ 64
-power_fits {b} {s = s} {i = i} {x} {col = col} n p h e f =
-    let d = p.powered.degree in
+power_fits {s = s} {i = i} {x} {col = col} n d p h e f =
     let cap : 2 ^ s ≤ 4096 = (Degree-bounds d).1 in
     let l : field_power s ω n < 2 ^ s = power_lt d ω n in
     let c : get_or col i 0 ≤ 281479271743489 =

@@ -1,10 +1,10 @@
 -- A word's values at the representatives, and whether all are 0.
 --
---   width_is        a byte has two columns
+--   cut_fits, cut_is      a byte has two columns
 --   columnable, summable, value_here      the value at a representative by columns
 --   Computing, computing_start, computing_more, computing_end      the first k representatives
 --   Testing, testing_start, testing_more, testing_end, testing_wrong      a codeword is 0 at each representative
---   AllZero, quiet_zero, quiet_other, quiet_start, quiet_more, quiet_end      whether the values so far are 0
+--   AllZero, quiet_start, quiet_more, quiet_end      whether the values so far are 0
 --   Values, values_start, values_more, values_end      all that the loop keeps
 --   values_summable, values_by, values_in      what a turn needs
 use mathlib.Core.Path.{◌≡◌, refl, sym, ap, ap₂, ◌∙◌, subst}
@@ -15,8 +15,8 @@ use Prim.Native.Nat.{ℕ, ◌+◌, ◌-◌, ◌*◌, ◌/◌, ◌^◌, ◌≤◌
 use native.Mathlib.Decide.{ℕ_discrete}
 use native.Mathlib.Omega.{arith}
 use lib.Dec.{eqb}
-use lib.ListN.{length, get_or, set, length-set, get_or-eq_default}
-use lib.Seq.{get_or-set_same, get_or-set_other}
+use lib.ListN.{length, get_or, set, take, length-set, get_or-eq_default}
+use lib.Seq.{get_or-set_same, get_or-set_other, length-take-le}
 use borrow.Author.Tests.{eq-eqb, ne_eqb}
 use Rattle.algebra.proofs.Lists.{All, all_of, all_at, In}
 use Rattle.field.specs.Field.{order_of_two, ω, α, field_power}
@@ -36,10 +36,14 @@ use Rattle.syndrome.specs.Value.{value_of, Evaluable, Computable, Computed, Valu
 use Rattle.syndrome.proofs.Setting.{long, at_in, in_at, by_lt, place_lt}
 
 -- ---- a word in columns
-pub width_is : (word : List ℕ) → length word * 2 ≡ length (places_of word) / 8 * 2
-width_is word = omega (arith, places_length word)
+pub cut_fits : {n s : ℕ} (word : List ℕ) {reps col val : List ℕ} → Computable n s (places_of word) reps col val → length word * 2 ≤ length col
+cut_fits word p = omega (arith, p.w_most, p.col_long, places_length word)
 
-module _ {n s b : ℕ} {w reps e g col val : List ℕ} (p : Computable n s w reps e g col val) (b_is : b ≡ length w / 8 * 2) where
+pub cut_is : {n s : ℕ} (word : List ℕ) {reps col val : List ℕ} → Computable n s (places_of word) reps col val
+    → length (take (length word * 2) col) ≡ length (places_of word) / 8 * 2
+cut_is word {col = col} p = length-take-le _ col (cut_fits word p) ∙ omega (arith, places_length word)
+
+module _ {n s b : ℕ} {w reps col val : List ℕ} (p : Computable n s w reps col val) (b_is : b ≡ length w / 8 * 2) where
   pub columnable : Columnable b w
   columnable = record {
     bits = p.bits;
@@ -49,14 +53,12 @@ module _ {n s b : ℕ} {w reps e g col val : List ℕ} (p : Computable n s w rep
   }
 
   module _ {q : ℕ} (q_is : q ≡ (2 ^ s - 1) / n) where
-    pub summable : {k r : ℕ} {col' : List ℕ} → k < length reps → r ≡ get_or reps k 0 → b ≤ length col' → Columned b w col'
-        → Summable b s (r * q) col' e
+    pub summable : {k r : ℕ} {col' : List ℕ} → k < length reps → r ≡ get_or reps k 0 → length col' ≡ b → Columned (length col') w col'
+        → Summable s (r * q) col'
     summable {k} h a l c = record {
-      powered = p.setting.powered;
       by_lt = by_lt p.setting q_is {k = k} h a;
       b_le = omega (arith, p.w_most, place_lt p.setting q_is (n - 1) (omega (arith, p.setting.odd.least)), p.setting.odd.least);
       even = omega arith;
-      long = l;
       word = w;
       columned = c;
     }
@@ -67,8 +69,8 @@ module _ {n s b : ℕ} {w reps e g col val : List ℕ} (p : Computable n s w rep
         let short : a < 2 ^ (4 * b) =
         below_pow (4 * b) a (λ i h. sym (ha.at i) ∙ get_or-eq_default w 0 (omega (arith, p.w_whole))) in
         y.is w t ∙ run_below (λ i. field_power s ω (i * (r * q))) ha (4 * b)
-        ∙ value_of_lem p.setting.powered.degree (r * q) (4 * b) a
-        ∙ ap (λ (x : ℕ). value_below s x (4 * b) a) (root_by p.setting.odd p.setting.s_is p.setting.powered.degree q_is r)
+        ∙ value_of_lem p.setting.degree (r * q) (4 * b) a
+        ∙ ap (λ (x : ℕ). value_below s x (4 * b) a) (root_by p.setting.odd p.setting.s_is p.setting.degree q_is r)
         ∙ value_all s (field_power s (α s n) r) a (4 * b) short
 
 -- ---- the representatives in turn
@@ -110,7 +112,7 @@ testing_more {n} {s} {k} {r} {w} {reps} t e f = record {
   ];
 }
 
-pub testing_end : {n s k : ℕ} {w reps e : List ℕ} → Evaluable n s reps e → length reps ≤ k → Testing n s k w reps
+pub testing_end : {n s k : ℕ} {w reps : List ℕ} → Evaluable n s reps → length reps ≤ k → Testing n s k w reps
     → ValuesTested n w reps true
 testing_end {n} {s} {k} {w} {reps} p h t = record {
   is = λ c hc l.
@@ -121,7 +123,7 @@ testing_end {n} {s} {k} {w} {reps} p h t = record {
       ap (λ (x : ℕ). value_at x (field_power x (α x n) r) c) (sym p.s_is) ∙ ap (value_of n s c) (sym a.2) ∙ t.done c hc l a.0 (omega (arith, a.1)))));
 }
 
-pub testing_wrong : {n s k r v : ℕ} {w reps e : List ℕ} → Evaluable n s reps e → k < length reps → r ≡ get_or reps k 0 → v ≢ 0
+pub testing_wrong : {n s k r v : ℕ} {w reps : List ℕ} → Evaluable n s reps → k < length reps → r ≡ get_or reps k 0 → v ≢ 0
     → ((c : ℕ) → Holds c w → c < 2 ^ n → v ≡ value_of n s c r) → ValuesTested n w reps false
 testing_wrong {n} {s} {k} {r} {v} {w} {reps} p h e ne f = record {
   is = λ c hc l. no_word c (f c hc l) _ (λ y. (representatives_iff (long p) reps c).0 y);
@@ -140,24 +142,10 @@ pub record AllZero (n s k : ℕ) (w reps : List ℕ) (quiet : Bool) : Type 0 whe
   pub yes : quiet ≡ true → Testing n s k w reps
   pub no : quiet ≡ false → ValuesTested n w reps false
 
-pub quiet_zero : {clean : Bool} {v : ℕ} → v ≡ 0 → clean ≡ clean && eqb v 0
-quiet_zero {clean} {v} z = sym (ap (λ b. clean && b) (eq-eqb v 0 z) ∙ and_true clean)
-  where
-    and_true : (b : Bool) → b && true ≡ b
-    and_true true = refl
-    and_true false = refl
-
-pub quiet_other : (clean : Bool) {v : ℕ} → v ≢ 0 → false ≡ clean && eqb v 0
-quiet_other clean {v} z = sym (ap (λ b. clean && b) (ne_eqb v 0 z) ∙ and_false clean)
-  where
-    and_false : (b : Bool) → b && false ≡ false
-    and_false true = refl
-    and_false false = refl
-
 pub quiet_start : {n s : ℕ} {w reps : List ℕ} → AllZero n s 0 w reps true
 quiet_start = record { yes = λ e. testing_start; no = λ e. absurd (true_ne_false refl e) }
 
-pub quiet_more : {n s k r v : ℕ} {w reps e : List ℕ} {quiet : Bool} → Evaluable n s reps e → k < length reps → r ≡ get_or reps k 0
+pub quiet_more : {n s k r v : ℕ} {w reps : List ℕ} {quiet : Bool} → Evaluable n s reps → k < length reps → r ≡ get_or reps k 0
     → ((c : ℕ) → Holds c w → c < 2 ^ n → v ≡ value_of n s c r) → AllZero n s k w reps quiet → AllZero n s (k + 1) w reps (quiet && eqb v 0)
 quiet_more {n} {s} {k} {r} {v} {w} {reps} {quiet = quiet} p h e f t = go quiet refl (ℕ_discrete v 0)
   where
@@ -175,7 +163,7 @@ quiet_more {n} {s} {k} {r} {v} {w} {reps} {quiet = quiet} p h e f t = go quiet r
         subst (AllZero n s (k + 1) w reps) (sym (ap₂ ◌&&◌ q (ne_eqb v 0 z)))
         record { yes = λ o. absurd (true_ne_false o refl); no = λ o. testing_wrong {k = k} p h e z f }
 
-pub quiet_end : {n s k : ℕ} {w reps e : List ℕ} {quiet : Bool} → Evaluable n s reps e → length reps ≤ k → AllZero n s k w reps quiet
+pub quiet_end : {n s k : ℕ} {w reps : List ℕ} {quiet : Bool} → Evaluable n s reps → length reps ≤ k → AllZero n s k w reps quiet
     → ValuesTested n w reps quiet
 quiet_end {n} {w = w} {reps} {quiet = quiet} p h t = go quiet refl
   where
@@ -184,71 +172,60 @@ quiet_end {n} {w = w} {reps} {quiet = quiet} p h t = go quiet refl
     go false q = subst (ValuesTested n w reps) (sym q) (t.no q)
 
 -- ---- all that the loop over the representatives keeps; the columns were given as `empty`
-pub record Values (n s b q count : ℕ) (w reps e g col val₀ val : List ℕ) (clean : Bool) (k : ℕ) : Type 0 where
+pub record Values (n s q : ℕ) (w reps col val₀ val : List ℕ) (clean : Bool) (k : ℕ) : Type 0 where
   pub empty : List ℕ
-  pub given : Computable n s w reps e g empty val₀
-  pub b_is : b ≡ length w / 8 * 2
-  pub b_le : b ≤ length col
-  pub columned : Columned b w col
+  pub given : Computable n s w reps empty val₀
+  pub b_is : length col ≡ length w / 8 * 2
+  pub columned : Columned (length col) w col
   pub q_is : q ≡ (2 ^ s - 1) / n
-  pub count_is : count ≡ length reps
-  pub k_le : k ≤ count
+  pub k_le : k ≤ length reps
   pub kept : length val ≡ length val₀
   pub computing : Computing n s k w reps val
   pub quiet : AllZero n s k w reps clean
 
-pub values_start : {n s o b : ℕ} {w reps e g empty col val : List ℕ} → Computable n s w reps e g empty val → b ≡ length w / 8 * 2
-    → length col ≡ length empty → Columned b w col → o ≡ 2 ^ s - 1
-    → Values n s b (o / n) (length reps) w reps e g col val val true 0
-values_start {n} {empty = empty} p b_is l c o_is = record {
+pub values_start : {n s o : ℕ} {w reps empty col val : List ℕ} → Computable n s w reps empty val → length col ≡ length w / 8 * 2
+    → Columned (length col) w col → o ≡ 2 ^ s - 1 → Values n s (o / n) w reps col val val true 0
+values_start {n} {empty = empty} p b_is c o_is = record {
   empty = empty;
   given = p;
   b_is = b_is;
-  b_le = omega (arith, p.w_most, p.col_long);
   columned = c;
   q_is = ap (λ (x : ℕ). x / n) o_is;
-  count_is = refl;
   k_le = omega arith;
   kept = refl;
   computing = computing_start;
   quiet = quiet_start;
 }
 
-module _ {n s b q count k : ℕ} {w reps e g col val₀ val : List ℕ} {clean : Bool} (h : k < count)
-    (t : Values n s b q count w reps e g col val₀ val clean k) where
-  here : k < length reps
-  here = omega (arith, t.count_is)
-
-  pub values_summable : Summable b s (get_or reps k 0 * q) col e
-  values_summable = summable t.given t.b_is t.q_is {k = k} here refl t.b_le t.columned
+module _ {n s q k : ℕ} {w reps col val₀ val : List ℕ} {clean : Bool} (h : k < length reps)
+    (t : Values n s q w reps col val₀ val clean k) where
+  pub values_summable : Summable s (get_or reps k 0 * q) col
+  values_summable = summable t.given t.b_is t.q_is {k = k} h refl refl t.columned
 
   pub values_by : get_or reps k 0 * q < 4096
-  values_by = omega (arith, by_lt t.given.setting t.q_is {k = k} here refl, (Degree-bounds t.given.tables.degree).1)
+  values_by = omega (arith, by_lt t.given.setting t.q_is {k = k} h refl, (Degree-bounds t.given.setting.degree).1)
 
   pub values_in : (get_or reps k 0 < 65535) × (get_or reps k 0 < length val)
   values_in =
-      let l = t.given.setting.below k here in
+      let l = t.given.setting.below k h in
       (omega (arith, t.given.setting.odd.most), omega (arith, t.given.val_long, t.kept))
 
-  pub values_more : {v : ℕ} {clean' : Bool} → Valued b s (get_or reps k 0 * q) col v → clean' ≡ clean && eqb v 0
-      → Values n s b q count w reps e g col val₀ (set val (get_or reps k 0) v) clean' (k + 1)
+  pub values_more : {v : ℕ} {clean' : Bool} → Valued (length col) s (get_or reps k 0 * q) col v → clean' ≡ clean && eqb v 0
+      → Values n s q w reps col val₀ (set val (get_or reps k 0) v) clean' (k + 1)
   values_more y o =
       let f = value_here t.given t.b_is t.q_is _ t.columned y in
       record {
         empty = t.empty;
         given = t.given;
         b_is = t.b_is;
-        b_le = t.b_le;
         columned = t.columned;
         q_is = t.q_is;
-        count_is = t.count_is;
         k_le = omega arith;
         kept = simp length-set t.kept;
         computing = computing_more t.computing refl values_in.1 f;
-        quiet = subst (AllZero n s (k + 1) w reps) (sym o) (quiet_more t.given.setting here refl f t.quiet);
+        quiet = subst (AllZero n s (k + 1) w reps) (sym o) (quiet_more t.given.setting h refl f t.quiet);
       }
 
-pub values_end : {n s b q count k : ℕ} {w reps e g col val₀ val : List ℕ} {clean : Bool} → count ≤ k
-    → Values n s b q count w reps e g col val₀ val clean k → Computed n s w reps val × ValuesTested n w reps clean
-values_end h t =
-    (computing_end (omega (arith, t.count_is)) t.computing, quiet_end t.given.setting (omega (arith, t.count_is)) t.quiet)
+pub values_end : {n s q k : ℕ} {w reps col val₀ val : List ℕ} {clean : Bool} → length reps ≤ k
+    → Values n s q w reps col val₀ val clean k → Computed n s w reps val × ValuesTested n w reps clean
+values_end h t = (computing_end h t.computing, quiet_end t.given.setting h t.quiet)

@@ -34,19 +34,19 @@ extending_more {n} {s} {k} {r} {v} {reps} {val} {val'} {val''} t b e f p = recor
     here : (c : ℕ) → HeldAt n s c reps val → v ≡ value_of n s c r
     here c h = f ∙ ap (λ (x : ℕ). get_or val' x 0) e ∙ t.held c h k b ∙ ap (value_of n s c) (sym e)
 
-pub conjugable : {n s k r v : ℕ} {reps e g val val' : List ℕ} → Extendable n s reps e g val → Extending n s k reps val val' → k < length reps
-    → r ≡ get_or reps k 0 → v ≡ get_or val' r 0 → length val' ≡ length val → Conjugable n s r v e g val'
+pub conjugable : {n s k r v : ℕ} {reps val val' : List ℕ} → Extendable n s reps val → Extending n s k reps val val' → k < length reps
+    → r ≡ get_or reps k 0 → v ≡ get_or val' r 0 → length val' ≡ length val → Conjugable n s r v val'
 conjugable {n} {s} {k} {r} {v} {reps} {val' = val'} p t h a f l = record {
   odd = p.setting.odd;
   s_is = p.setting.s_is;
   r_lt = subst (λ (x : ℕ). x < n) (sym a) (p.setting.below k h);
   v_lt = subst (λ (x : ℕ). x < 2 ^ s) (sym (f ∙ ap (λ (x : ℕ). get_or val' x 0) a ∙ t.held p.word p.held k h))
-      (value_lt p.tables.degree _ p.word);
-  tables = p.tables;
+      (value_lt p.setting.degree _ p.word);
+  degree = p.setting.degree;
   long = omega (arith, p.long, l);
 }
 
-pub extending_end : {n s k : ℕ} {reps e g val val' : List ℕ} → Extendable n s reps e g val → length reps ≤ k → Extending n s k reps val val'
+pub extending_end : {n s k : ℕ} {reps val val' : List ℕ} → Extendable n s reps val → length reps ≤ k → Extending n s k reps val val'
     → Extended n s reps val val'
 extending_end {n} {s} {k} {reps} {val = val} {val'} p h t = record {
   at = λ c hc i q.

@@ -11,7 +11,7 @@ use Prim.Native.Nat.{ℕ, zero, suc, ◌+◌, ◌*◌, ◌^◌, ◌<◌}
 use native.Mathlib.Nat.{add-mul, one-mul, zero-mul}
 use native.Mathlib.Omega.{arith}
 use lib.Bits.{bit_xor}
-use lib.ListN.{get_or}
+use lib.ListN.{length, get_or}
 use lib.Pow.{pow_pos}
 use Rattle.field.specs.Mask.{◌⊕◌}
 use Rattle.field.specs.Field.{Degree, ω, field_multiply, field_power}
@@ -125,20 +125,20 @@ module _ {s : ℕ} (d : Degree s) where
         ∙ sym (λ x. rule (in_lane_more b 0 x) (in_lane_more b 1 x) (in_lane_more b 2 x) (in_lane_more b 3 x))
 
 -- ---- as the code puts it together
-module _ {b s by a : ℕ} {col e : List ℕ} (p : Summable b s by col e) (t : LaneSums b s by col a) where
+module _ {s by a : ℕ} {col : List ℕ} (d : Degree s) (p : Summable s by col) (t : LaneSums (length col) s by col a) where
   pub lane_lt : {x : ℕ} (j : ℕ) → j < 4 → x ≡ lane j a → x < 2 ^ s
   lane_lt j h q =
       subst (λ (y : ℕ). y < 2 ^ s) (sym (q ∙ t.at p.word p.columned j h))
-      (run_lt p.powered.degree (λ i. 4 * i * by) (λ i. get_or p.word (4 * i + j) 0) (λ i. p.columned.bits (4 * i + j)) b)
+      (run_lt d (λ i. 4 * i * by) (λ i. get_or p.word (4 * i + j) 0) (λ i. p.columned.bits (4 * i + j)) (length col))
 
   pub sum_lt : {x y : ℕ} (j z : ℕ) → j < 4 → x ≡ lane j a → y ≡ field_multiply s (field_power s ω by) z → bit_xor x y < 2 ^ s
   unfolding ◌⊕◌
   sum_lt {x} {y} j z h q r =
-      ⊕-lt s x y (lane_lt j h q) (subst (λ (v : ℕ). v < 2 ^ s) (sym r) (multiply_lt p.powered.degree (field_power s ω by) z))
+      ⊕-lt s x y (lane_lt j h q) (subst (λ (v : ℕ). v < 2 ^ s) (sym r) (multiply_lt d (field_power s ω by) z))
 
   pub valued : {x₀ x₁ x₂ x₃ y₁ y₂ y₃ : ℕ} → x₀ ≡ lane 0 a → x₁ ≡ lane 1 a → x₂ ≡ lane 2 a → x₃ ≡ lane 3 a
       → y₃ ≡ field_multiply s (field_power s ω by) x₃ → y₂ ≡ field_multiply s (field_power s ω by) (bit_xor x₂ y₃)
-      → y₁ ≡ field_multiply s (field_power s ω by) (bit_xor x₁ y₂) → Valued b s by col (bit_xor x₀ y₁)
+      → y₁ ≡ field_multiply s (field_power s ω by) (bit_xor x₁ y₂) → Valued (length col) s by col (bit_xor x₀ y₁)
   unfolding ◌⊕◌
   valued {x₀} {x₁} {x₂} {x₃} {y₁} {y₂} {y₃} q₀ q₁ q₂ q₃ e₃ e₂ e₁ = record {
     is = λ w c.
@@ -148,7 +148,7 @@ module _ {b s by a : ℕ} {col e : List ℕ} (p : Summable b s by col e) (t : La
         (e₂ ∙ ap (field_multiply s (field_power s ω by))
         (ap₂ ◌⊕◌ (q₂ ∙ t.at w c 2 (omega arith))
         (e₃ ∙ ap (field_multiply s (field_power s ω by)) (q₃ ∙ t.at w c 3 (omega arith)))))))
-        ∙ sym (horner p.powered.degree by (λ i. get_or w i 0) c.bits b);
+        ∙ sym (horner d by (λ i. get_or w i 0) c.bits (length col));
     lt = sum_lt 0 (bit_xor x₁ y₂) (omega arith) q₀ e₁;
   }
 

@@ -2,6 +2,7 @@
 --
 --   over_z, over_s, below_s      sums, one place more
 --   listing_start, listing_more, listing_skip, listing_end      the places below i
+--   listed_cut         the listed places cut off
 --   listed_none        the mask 0 has none
 --   listed_mask        the sum of 2^i over its places is the mask
 use mathlib.Core.Path.{◌≡◌, refl, sym, ap, ap₂, ◌∙◌, subst}
@@ -11,8 +12,8 @@ use native.Mathlib.Nat.{zero-mul, one-mul}
 use native.Mathlib.Decide.{ℕ_discrete, dec_lt}
 use native.Mathlib.Numerals.{add-one}
 use native.Mathlib.Omega.{arith}
-use lib.ListN.{length, get_or, set}
-use lib.Seq.{get_or-set_same, get_or-set_other}
+use lib.ListN.{length, get_or, set, take}
+use lib.Seq.{get_or-set_same, get_or-set_other, get_or-take, length-take-le}
 use Rattle.field.specs.Mask.{◌⊕◌, coefficient}
 use Rattle.field.proofs.Xor.{digit_lt, ⊕-zero-l, ⊕-zero-r, bit_⊕, bit_ext}
 use Rattle.cyclic.proofs.Places.{coefficient_above, coefficient_zero}
@@ -107,6 +108,25 @@ pub listing_end : {n i a c : ℕ} {list : List ℕ} → i ≡ n → Listed i a l
 listing_end {a = a} {c} {list} e t = subst (λ (k : ℕ). Listed k a list c) e t
 
 -- ---- what a list says of its mask
+-- the listed places cut off
+sum_over_cut : (h : ℕ → ℕ) (list : List ℕ) (m k : ℕ) → k ≤ m → sum_over h (take m list) k ≡ sum_over h list k
+sum_over_cut h list m zero l = over_z h (take m list) ∙ sym (over_z h list)
+sum_over_cut h list m (suc k) l =
+    over_s h (take m list) k
+    ∙ ap₂ (λ (y z : ℕ). y ⊕ h z) (sum_over_cut h list m k (omega arith)) (get_or-take m list k 0 (omega arith))
+    ∙ sym (over_s h list k)
+
+pub listed_cut : {n a m : ℕ} {list : List ℕ} → m ≤ length list → Listed n a list m → Listed n a (take m list) (length (take m list))
+listed_cut {n} {a} {m} {list} l t = subst (Listed n a (take m list)) (sym (length-take-le m list l)) cut
+  where
+    cut : Listed n a (take m list) m
+    cut = record {
+      le = t.le;
+      below = λ k b. subst (λ (x : ℕ). x < n) (sym (get_or-take m list k 0 b)) (t.below k b);
+      marked = λ k b. subst (λ (x : ℕ). coefficient x a ≡ 1) (sym (get_or-take m list k 0 b)) (t.marked k b);
+      is = λ h. sum_over_cut h list m m (omega arith) ∙ t.is h;
+    }
+
 pub listed_none : (n : ℕ) {list : List ℕ} → Listed n 0 list 0
 listed_none zero = listing_start
 listed_none (suc n) {list} = subst (λ (k : ℕ). Listed k 0 list 0) (add-one n) (listing_skip (coefficient_zero n) (listed_none n))

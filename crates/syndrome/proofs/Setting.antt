@@ -24,8 +24,8 @@ use Rattle.document.proofs.Encoding.{below_lt, value_is}
 use Rattle.syndrome.proofs.Roots.{q_pos, root_lt}
 use Rattle.syndrome.specs.Value.{Evaluable}
 
-pub long : {n s : ℕ} {reps e : List ℕ} → Evaluable n s reps e → Length n
-long p = record { odd = p.odd; most = omega (arith, p.s_is, p.powered.degree.hi) }
+pub long : {n s : ℕ} {reps : List ℕ} → Evaluable n s reps → Length n
+long p = record { odd = p.odd; most = omega (arith, p.s_is, p.degree.hi) }
 
 pub at_in : (l : List ℕ) (j : ℕ) → j < length l → In (get_or l j 0) l
 at_in [] j h = absurd (omega arith)
@@ -45,16 +45,16 @@ rep_in {n} l reps below k h =
     ap (in_set n reps) (sym e) ∙ of_T (in_set n reps (r * 2 ^ 0 % n)) ((represented l reps).inside (at_in reps k h) 0)
 
 -- ---- exponents
-module _ {n s q : ℕ} {reps e : List ℕ} (p : Evaluable n s reps e) (q_is : q ≡ (2 ^ s - 1) / n) where
+module _ {n s q : ℕ} {reps : List ℕ} (p : Evaluable n s reps) (q_is : q ≡ (2 ^ s - 1) / n) where
   pub by_lt : {k r : ℕ} → k < length reps → r ≡ get_or reps k 0 → r * q < 2 ^ s - 1
-  by_lt {k} {r} h a = root_lt p.odd p.s_is p.powered.degree q_is r (subst (λ (x : ℕ). x < n) (sym a) (p.below k h))
+  by_lt {k} {r} h a = root_lt p.odd p.s_is p.degree q_is r (subst (λ (x : ℕ). x < n) (sym a) (p.below k h))
 
   -- a place is an exponent
   pub place_lt : (i : ℕ) → i < n → i < 2 ^ s - 1
-  place_lt i h = omega (arith, root_lt p.odd p.s_is p.powered.degree q_is (n - 1) (omega arith), whole_pos, mul-le-mul_left (n - 1) whole_pos, mul-one (n - 1))
+  place_lt i h = omega (arith, root_lt p.odd p.s_is p.degree q_is (n - 1) (omega arith), whole_pos, mul-le-mul_left (n - 1) whole_pos, mul-one (n - 1))
     where
       whole_pos : 1 ≤ q
-      whole_pos = q_pos p.odd p.s_is p.powered.degree q_is
+      whole_pos = q_pos p.odd p.s_is p.degree q_is
 
 -- ---- the value of a sum
 pub value_lt : {s : ℕ} (d : Degree s) (x c : ℕ) → value_at s x c < 2 ^ s

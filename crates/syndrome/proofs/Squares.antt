@@ -55,7 +55,7 @@ pub record Turning (n s r v j x y : ℕ) (val val' : List ℕ) : Type 0 where
   pub done : (c : ℕ) → v ≡ value_of n s c r → (k : ℕ) → k < j → get_or val' (r * 2 ^ k % n) 0 ≡ value_of n s c (r * 2 ^ k % n)
   pub kept : (c : ℕ) → v ≡ value_of n s c r → (i : ℕ) → get_or val i 0 ≡ value_of n s c i → get_or val' i 0 ≡ value_of n s c i
 
-pub turning_start : {n s r v : ℕ} {e g val : List ℕ} → Conjugable n s r v e g val → Turning n s r v 0 r v val val
+pub turning_start : {n s r v : ℕ} {val : List ℕ} → Conjugable n s r v val → Turning n s r v 0 r v val val
 turning_start p = record {
   x_is = walk_start p.r_lt;
   x_lt = p.r_lt;
@@ -65,14 +65,14 @@ turning_start p = record {
   kept = λ c h i q. q;
 }
 
-pub turning_more : {n s r v j x y x' y' : ℕ} {e g val val' : List ℕ} → Conjugable n s r v e g val → Turning n s r v j x y val val'
+pub turning_more : {n s r v j x y x' y' : ℕ} {val val' : List ℕ} → Conjugable n s r v val → Turning n s r v j x y val val'
     → x < length val' → x' ≡ x * 2 % n → x' < n → y' ≡ field_multiply s y y
     → Turning n s r v (j + 1) x' y' val (set val' x y)
-turning_more {n} {s} {r} {v} {j} {x} {y} {x'} {y'} {e} {g} {val} {val'} p t h a l b = record {
+turning_more {n} {s} {r} {v} {j} {x} {y} {x'} {y'} {val} {val'} p t h a l b = record {
   x_is = walk_more p.odd r j t.x_is a;
   x_lt = l;
-  y_lt = subst (λ (z : ℕ). z < 2 ^ s) (sym b) (multiply_lt p.tables.degree y y);
-  y_is = λ c q. b ∙ ap (λ (z : ℕ). field_multiply s z z) (t.y_is c q) ∙ value_double p.odd p.s_is p.tables.degree c x
+  y_lt = subst (λ (z : ℕ). z < 2 ^ s) (sym b) (multiply_lt p.degree y y);
+  y_is = λ c q. b ∙ ap (λ (z : ℕ). field_multiply s z z) (t.y_is c q) ∙ value_double p.odd p.s_is p.degree c x
       ∙ ap (value_of n s c) (sym a);
   done = λ c q k b. elim (ℕ_discrete k j) [
     | yes f ↦ (let at : r * 2 ^ k % n ≡ x = ap (λ (i : ℕ). r * 2 ^ i % n) f ∙ sym t.x_is in
@@ -91,9 +91,9 @@ turning_more {n} {s} {r} {v} {j} {x} {y} {x'} {y'} {e} {g} {val} {val'} p t h a 
       | no w ↦ get_or-set_other val' x i y 0 w ∙ f
     ]
 
-pub turning_end : {n s r v j x y : ℕ} {e g val val' : List ℕ} → Conjugable n s r v e g val → j ≡ s → Turning n s r v j x y val val'
+pub turning_end : {n s r v j x y : ℕ} {val val' : List ℕ} → Conjugable n s r v val → j ≡ s → Turning n s r v j x y val val'
     → Conjugated n s r v val val'
-turning_end {n} {s} {r} {v} {j} {x} {y} {e} {g} {val} {val'} p f t = record {
+turning_end {n} {s} {r} {v} {j} {x} {y} {val} {val'} p f t = record {
   all = λ c q k.
       let l : k % order_of_two n < order_of_two n = mod-lt k (order_pos n) in
       subst (λ (i : ℕ). get_or val' i 0 ≡ value_of n s c i) (sym (turn_back p.odd r k))

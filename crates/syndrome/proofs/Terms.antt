@@ -1,12 +1,9 @@
 -- The walk over a certificate's terms that writes the syndromes.
 --
---   term_one, term_none      a value times a term
 --   Writing, writing_start, writing_more, writing_end      the first j syndromes are written
 use mathlib.Core.Path.{◌≡◌, refl, sym, ap, ap₂, ◌∙◌}
-use mathlib.Core.Logic.{◌≢◌}
 use mathlib.Core.List.{List}
 use Prim.Native.Nat.{ℕ, ◌+◌, ◌*◌, ◌%◌, ◌≤◌, ◌<◌}
-use native.Mathlib.Nat.{one-mul, zero-mul}
 use native.Mathlib.Decide.{ℕ_discrete}
 use native.Mathlib.Omega.{arith}
 use lib.ListN.{length, get_or, set}
@@ -17,12 +14,6 @@ use Rattle.sheet.specs.Stage.{certificate_as}
 use Rattle.certificate.specs.Rules.{Walkable}
 use Rattle.certificate.proofs.Terms.{At, term}
 use Rattle.syndrome.specs.Series.{SyndromesOf}
-
-pub term_one : (num y : ℕ) → num % 2 ≡ 1 → y ≡ (num % 2) * y
-term_one num y e = sym (ap (λ (d : ℕ). d * y) e ∙ one-mul y)
-
-pub term_none : (num y : ℕ) → num % 2 ≢ 1 → 0 ≡ (num % 2) * y
-term_none num y e = let z : num % 2 ≡ 0 = omega arith in sym (ap (λ (d : ℕ). d * y) z ∙ zero-mul y)
 
 pub record Writing (n : ℕ) (c : CodeCertificate) (j : ℕ) (val out out' : List ℕ) : Type 0 where
   pub done : (i : ℕ) → i < j → get_or out' i 0 ≡ get_or (terms c.f c.h c.terms) i 0 * get_or val ((c.b + i * c.z) % n) 0

@@ -19,7 +19,7 @@ use Rattle.field.proofs.Xor.{⊕-lt}
 use Rattle.field.proofs.Elements.{GF, gen, el_inj}
 use Rattle.field.proofs.Numbers.{power_lt, el_power}
 use Rattle.document.specs.Generator.{value_below}
-use Rattle.syndrome.specs.Sums.{sum_over, sum_below, Valuable}
+use Rattle.syndrome.specs.Sums.{sum_over, sum_below}
 use Rattle.syndrome.proofs.Listing.{over_z, over_s}
 
 -- ---- the sum
@@ -30,15 +30,15 @@ pub record Valuing (s by k acc : ℕ) (list : List ℕ) : Type 0 where
 pub valuing_start : {s by : ℕ} {list : List ℕ} → Valuing s by 0 0 list
 valuing_start {s} {by} {list} = record { is = sym (over_z (λ i. field_power s ω (i * by)) list); lt = pow_pos s }
 
-pub valuing_more : {c s by k acc x : ℕ} {list e : List ℕ} → Valuable c s by list e → Valuing s by k acc list
+pub valuing_more : {s by k acc x : ℕ} {list : List ℕ} → Degree s → Valuing s by k acc list
     → x ≡ field_power s ω (0 + get_or list k 0 * by) → Valuing s by (k + 1) (bit_xor acc x) list
 unfolding ◌⊕◌
-valuing_more {c} {s} {by} {k} {acc} {x} {list} v t q =
+valuing_more {s} {by} {k} {acc} {x} {list} d t q =
     let n : 0 + get_or list k 0 * by ≡ get_or list k 0 * by = omega arith in
     let p : x ≡ field_power s ω (get_or list k 0 * by) = q ∙ ap (field_power s ω) n in
     record {
       is = ap₂ ◌⊕◌ t.is p ∙ sym (ap (sum_over (λ i. field_power s ω (i * by)) list) (add-one k) ∙ over_s (λ i. field_power s ω (i * by)) list k);
-      lt = ⊕-lt s acc x t.lt (subst (λ (y : ℕ). y < 2 ^ s) (sym p) (power_lt v.powered.degree ω (get_or list k 0 * by)));
+      lt = ⊕-lt s acc x t.lt (subst (λ (y : ℕ). y < 2 ^ s) (sym p) (power_lt d ω (get_or list k 0 * by)));
     }
 
 pub valuing_end : {s by k c acc : ℕ} {list : List ℕ} → k ≡ c → Valuing s by k acc list

@@ -4,13 +4,12 @@
 --   run_sum h p m        the sum of h i over the i below m at which p has a 1
 --   column w i          the four places of column i
 --   Columnable, Columned      the columns of a word: what they need, and what they are
---   Summable b s by col e     columns of some word, and the powers of ω
+--   Summable s by col      columns of some word, and an exponent
 --   LaneSums            the sums of ω^(4 i by) over the columns i that have a 1 in a lane, for each lane
 --   Valued              and the value that they make together
 use Rattle.std.specs.Prelude.{◌≡◌, List, ℕ, zero, suc, ◌+◌, ◌-◌, ◌*◌, ◌%◌, ◌^◌, ◌≤◌, ◌<◌, length, get_or}
 use Rattle.field.specs.Mask.{◌⊕◌}
 use Rattle.field.specs.Field.{ω, field_power}
-use Rattle.field.specs.Tables.{Powered}
 use Rattle.binary.specs.Lanes.{in_lanes, lane}
 
 unfoldable pub run_sum : (h p : ℕ → ℕ) → ℕ → ℕ
@@ -30,15 +29,13 @@ pub record Columned (b : ℕ) (w col : List ℕ) : Type 0 where
   pub bits : (i : ℕ) → get_or w i 0 < 2
   pub at : (i : ℕ) → i < b → get_or col i 0 ≡ column w i
 
-pub record Summable (b s by : ℕ) (col e : List ℕ) : Type 0 where
-  pub powered : Powered s e
+pub record Summable (s by : ℕ) (col : List ℕ) : Type 0 where
   pub by_lt : by < 2 ^ s - 1
-  -- n is at most 2^s - 1, and 4 b is n rounded up to a multiple of 8
-  pub b_le : 4 * b ≤ 2 ^ s + 6
-  pub even : b % 2 ≡ 0
-  pub long : b ≤ length col
+  -- n is at most 2^s - 1, and four times the columns are n rounded up to a multiple of 8
+  pub b_le : 4 * length col ≤ 2 ^ s + 6
+  pub even : length col % 2 ≡ 0
   pub word : List ℕ
-  pub columned : Columned b word col
+  pub columned : Columned (length col) word col
 
 pub record LaneSums (b s by : ℕ) (col : List ℕ) (r : ℕ) : Type 0 where
   pub at : (w : List ℕ) → Columned b w col → (j : ℕ) → j < 4 → lane j r ≡ run_sum (λ i. field_power s ω (4 * i * by)) (λ i. get_or w (4 * i + j) 0) b

@@ -3,10 +3,9 @@
 --   sum_over h list c        the sum of h over the first c places of a list
 --   sum_below n a h          the sum of h over the places below n at which the mask a has a 1
 --   Listed n a list c       the first c places of a list are those below n of the mask a
---   Valuable c s by list e  c places, and the powers of ω
+--   Valuable s by list      a list of places, and an exponent
 use Rattle.std.specs.Prelude.{◌≡◌, List, ℕ, zero, suc, ◌-◌, ◌*◌, ◌^◌, ◌≤◌, ◌<◌, length, get_or}
 use Rattle.field.specs.Mask.{◌⊕◌, coefficient}
-use Rattle.field.specs.Tables.{Powered}
 
 unfoldable pub sum_over : (ℕ → ℕ) → List ℕ → ℕ → ℕ
 sum_over h list zero = 0
@@ -23,9 +22,6 @@ pub record Listed (n a : ℕ) (list : List ℕ) (c : ℕ) : Type 0 where
   pub marked : (k : ℕ) → k < c → coefficient (get_or list k 0) a ≡ 1
   pub is : (h : ℕ → ℕ) → sum_over h list c ≡ sum_below n a h
 
-pub record Valuable (c s by : ℕ) (list e : List ℕ) : Type 0 where
-  pub powered : Powered s e
+pub record Valuable (s by : ℕ) (list : List ℕ) : Type 0 where
   pub by_lt : by < 2 ^ s - 1
-  pub below : (k : ℕ) → k < c → get_or list k 0 < 2 ^ s - 1
-  pub long : c ≤ length list
-  pub few : c ≤ 65535
+  pub below : (k : ℕ) → k < length list → get_or list k 0 < 2 ^ s - 1

@@ -5,6 +5,9 @@
 // the input has. tools/answers.py makes the calls, and the same answers with none of this code.
 #![tactic(auto)]
 
+// the kinds of calls
+mod kind;
+
 // what lines are made of
 mod line;
 
@@ -14,7 +17,7 @@ mod sheets;
 // lines about card with a buffer of any length
 mod cards;
 
-// the line about one message or word
+// the line about one message or word, of a shortened code too
 mod words;
 
 // the line about all words of a length
@@ -23,69 +26,60 @@ mod every;
 // lines about words with marked places, and the part that is shown
 mod marked;
 
-// the line about one message or word of a shortened code
-mod shortened;
-
 // the line about a block of words
 mod block;
 
-ghost use Rattle.std.specs.Prelude.{◌<◌, ◌≤◌, length, IfOk};
+ghost use Rattle.std.specs.Prelude.{◌≤◌, length, IfOk};
 
-use crate::line::wide;
+use crate::kind::Kind;
+use crate::words::{short_line, word_line};
+use code::decode::{decode, decode_short};
+use code::encode::{encode, encode_short};
+use code::read::{read, read_short};
 use std::io;
 use std::io::Read;
 
 fn main(rt: HostRuntime) -> io::Result<()> {
     let mut from = rt.stdin();
-    let mut left = 100000usize;
-    while 0 < left {
+    for _ in 0..100000 {
         if !answer_call(&rt, &mut from)? {
-            return Ok(());
+            break;
         }
-        left = left - 1;
     }
     Ok(())
 }
 
-// False where the input has ended.
+// False where the input has ended, or a length is past its buffer.
 fn answer_call<R: Read>(rt: &impl Print, from: &mut R) -> io::Result<bool> {
     let mut head = [0u8; 4];
-    let mut sheet = [0u8; 80];
-    let mut input = [0u8; 300];
     if read_full(from, &mut head)? == 0 {
         return Ok(false);
     }
-    let size = wide(head[1]);
-    let count = wide(head[2]) + further(head[0], head[3]);
-    fetch(from, &mut sheet, size)?;
-    fetch(from, &mut input, count)?;
-    answer(rt, head[0], &sheet, size, &input, count, wide(head[3]))
+    let [number, size, count, length] = head;
+    let kind = Kind::from(number);
+    // A block's input has as many bytes more as the fourth byte says.
+    let further = if kind == Kind::DecodeBlock { length } else { 0 };
+    let mut sheet = [0u8; 80];
+    let mut input = [0u8; 300];
+    let Some(sheet) = sheet.get_mut(..usize::from(size)) else {
+        return Ok(false);
+    };
+    let Some(input) = input.get_mut(..usize::from(count) + usize::from(further)) else {
+        return Ok(false);
+    };
+    read_full(from, sheet)?;
+    read_full(from, input)?;
+    answer(rt, kind, sheet, input, usize::from(length))?;
+    Ok(true)
 }
 
-// How many bytes the input has more than its own length says.
-fn further(kind: u8, length: u8) -> usize
-    ensures { result < 256 }
-{
-    if kind == 11 { wide(length) } else { 0 }
-}
-
-fn fetch<R: Read>(from: &mut R, buffer: &mut [u8], size: usize) -> io::Result<()> {
-    if buffer.len() < size {
-        return Ok(());
-    }
-    read_full(from, &mut buffer[..size])?;
-    Ok(())
-}
-
-// Reads until the buffer is full or the input ends, and returns how many bytes it put at the start of the buffer.
+// Reads until the buffer is full or the input ends, and returns how many bytes it put at the start of the buffer; `read_exact` does not
+// say how many. stream has the same function for itself: it is linkcard's crate, and would be named here for this alone.
 fn read_full<R: Read>(from: &mut R, buffer: &mut [u8]) -> io::Result<usize>
     ensures { IfOk result (λ n. n ≤ length buffer.new) }
 {
     let mut done = 0;
-    for _ in 0..buffer.len() {
-        if done == buffer.len() {
-            break;
-        }
+    while done < buffer.len() {
         let n = from.read(&mut buffer[done..])?;
         if n == 0 {
             break;
@@ -97,45 +91,44 @@ fn read_full<R: Read>(from: &mut R, buffer: &mut [u8]) -> io::Result<usize>
 
 fn answer(
     rt: &impl Print,
-    kind: u8,
+    kind: Kind,
     sheet: &[u8],
-    size: usize,
     input: &[u8],
-    count: usize,
     length: usize,
-) -> io::Result<bool> {
-    if sheet.len() < size {
-        return Ok(false);
+) -> io::Result<()> {
+    match kind {
+        Kind::Judge => {
+            sheets::judge_line(rt, sheet)?;
+            sheets::card_lines(rt, sheet)
+        }
+        Kind::Encode => word_line(rt, "encode", |out| encode(sheet, input, out), length),
+        Kind::Read => word_line(rt, "read", |out| read(sheet, input, out), length),
+        Kind::Decode => word_line(rt, "decode", |out| decode(sheet, input, out), length),
+        Kind::DecodeAll => every::words_line(rt, sheet, length),
+        Kind::Card => cards::card_lines(rt, sheet, input),
+        Kind::DecodeMarked => marked::marked_line(rt, sheet, input),
+        Kind::Shown => marked::shown_line(rt, input),
+        Kind::EncodeShort => short_line(
+            rt,
+            "encode_short",
+            |m, message, out| encode_short(sheet, m, message, out),
+            input,
+            length,
+        ),
+        Kind::ReadShort => short_line(
+            rt,
+            "read_short",
+            |m, word, out| read_short(sheet, m, word, out),
+            input,
+            length,
+        ),
+        Kind::DecodeShort => short_line(
+            rt,
+            "decode_short",
+            |m, word, out| decode_short(sheet, m, word, out),
+            input,
+            length,
+        ),
+        Kind::DecodeBlock => block::block_line(rt, sheet, input),
     }
-    if input.len() < count {
-        return Ok(false);
-    }
-    lines(rt, kind, &sheet[..size], &input[..count], length)?;
-    Ok(true)
-}
-
-fn lines(rt: &impl Print, kind: u8, sheet: &[u8], input: &[u8], length: usize) -> io::Result<()> {
-    if kind == 0 {
-        sheets::judge_line(rt, sheet)?;
-        return sheets::card_lines(rt, sheet);
-    }
-    if kind == 4 {
-        return every::words_line(rt, sheet, length);
-    }
-    if kind == 5 {
-        return cards::card_lines(rt, sheet, input);
-    }
-    if kind == 6 {
-        return marked::marked_line(rt, sheet, input);
-    }
-    if kind == 7 {
-        return marked::shown_line(rt, input);
-    }
-    if kind == 11 {
-        return block::block_line(rt, sheet, input);
-    }
-    if 7 < kind {
-        return shortened::short_line(rt, kind, sheet, input, length);
-    }
-    words::word_line(rt, kind, sheet, input, length)
 }

@@ -1,66 +1,49 @@
 // The line about one message or word: the entry, its reply, and the buffer afterwards, which holds AA before.
-use crate::line::{hex, number};
-use code::decode::decode;
-use code::encode::encode;
-use code::read::read;
+use crate::line::hex;
 use code::refusal::refusal_number;
-use document::types::Reply;
+use document::types::Refusal;
 use std::io;
 
-pub fn word_line(
+pub fn word_line<F: FnOnce(&mut [u8]) -> Result<usize, Refusal>>(
     rt: &impl Print,
-    kind: u8,
-    sheet: &[u8],
-    input: &[u8],
+    name: &str,
+    entry: F,
     length: usize,
-) -> io::Result<()> {
+) -> io::Result<()>
+    requires { F.IsAlwaysCallable entry }
+{
     let mut out = [170u8; 20];
-    lent_line(rt, kind, sheet, input, &mut out, length)
-}
-
-fn lent_line(
-    rt: &impl Print,
-    kind: u8,
-    sheet: &[u8],
-    input: &[u8],
-    out: &mut [u8],
-    length: usize,
-) -> io::Result<()> {
-    if out.len() < length {
+    let Some(lent) = out.get_mut(..length) else {
         return Ok(());
-    }
-    let reply = reply_to(kind, sheet, input, &mut out[..length]);
-    reply_label(rt, kind, reply)?;
-    hex(rt, out, length)?;
+    };
+    let reply = entry(lent);
+    print!(rt; "{name}")?;
+    reply_words(rt, reply)?;
+    hex(rt, lent)?;
     println!(rt)
 }
 
-fn reply_to(kind: u8, sheet: &[u8], input: &[u8], out: &mut [u8]) -> Reply {
-    if kind == 1 {
-        return encode(sheet, input, out);
-    }
-    if kind == 2 {
-        return read(sheet, input, out);
-    }
-    decode(sheet, input, out)
-}
-
-fn reply_label(rt: &impl Print, kind: u8, reply: Reply) -> io::Result<()> {
-    if kind == 1 {
-        print!(rt; "encode")?;
-    } else if kind == 2 {
-        print!(rt; "read")?;
-    } else {
-        print!(rt; "decode")?;
-    }
-    reply_words(rt, reply)
+// For a shortened code: the input is m, eight bytes, the low one first, and the message or the word.
+pub fn short_line<F: FnOnce(usize, &[u8], &mut [u8]) -> Result<usize, Refusal>>(
+    rt: &impl Print,
+    name: &str,
+    entry: F,
+    input: &[u8],
+    length: usize,
+) -> io::Result<()>
+    requires { F.IsAlwaysCallable entry }
+{
+    let Some((m, given)) = input.split_first_chunk::<8>() else {
+        return Ok(());
+    };
+    let m = usize::from_le_bytes(*m);
+    word_line(rt, name, |out| entry(m, given, out), length)
 }
 
 // What is returned may be the number of a refusal.
-pub fn reply_words(rt: &impl Print, reply: Reply) -> io::Result<()> {
+pub fn reply_words(rt: &impl Print, reply: Result<usize, Refusal>) -> io::Result<()> {
     match reply {
-        Reply::Done(n) => number(rt, b" returned ", n)?,
-        Reply::Refused(r) => number(rt, b" refused ", refusal_number(r))?,
+        Ok(n) => print!(rt; " returned {n} "),
+        Err(r) => print!(rt; " refused {} ", refusal_number(r)),
     }
-    print!(rt; " ")
 }

@@ -1,16 +1,9 @@
 -- `dunefork::dunefork_read` meets its contract: the entry's answer as a code.
-use Rattle.dunefork.proofs.Coded.{replied, coded_refused, read_done}
+use Rattle.dunefork.proofs.Coded.{value_few, coded, read_few}
 use Rattle.dunefork.proofs.dunefork_read.Goals as goal
 
-pub shape_of-out-in-Done : goal.shape_of-out-in-Done
-shape_of-out-in-Done c = c.read-reply.auto.out
+pub reply_code-requires : goal.reply_code-requires
+reply_code-requires c = value_few c.read.ensures (read_few _ _ _)
 
-pub returns-in-Done : goal.returns-in-Done
-returns-in-Done c = read_done _ _ _ (replied c.in-Done.is c.read-reply.ensures)
-
-pub shape_of-out-in-Refused : goal.shape_of-out-in-Refused
-shape_of-out-in-Refused c = c.read-reply.auto.out
-
-pub returns-in-Refused : goal.returns-in-Refused
-returns-in-Refused c = coded_refused c.in-Refused.r c.refusal_code.ensures
-    (replied c.in-Refused.is c.read-reply.ensures)
+pub returns : goal.returns
+returns c = coded c.reply_code.type_inv c.reply_code.ensures c.read.ensures

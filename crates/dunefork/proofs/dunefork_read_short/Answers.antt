@@ -1,16 +1,9 @@
 -- `dunefork::dunefork_read_short` meets its contract: the entry's answer as a code.
-use Rattle.dunefork.proofs.Coded.{replied, coded_refused, read_short_done}
+use Rattle.dunefork.proofs.Coded.{value_few, coded, read_short_few}
 use Rattle.dunefork.proofs.dunefork_read_short.Goals as goal
 
-pub shape_of-out-in-Done : goal.shape_of-out-in-Done
-shape_of-out-in-Done c = c.read_short-reply.auto.out
+pub reply_code-requires : goal.reply_code-requires
+reply_code-requires c = value_few c.read_short.ensures (read_short_few _ c.args.m _ _)
 
-pub returns-in-Done : goal.returns-in-Done
-returns-in-Done c = read_short_done _ c.args.m _ _ (replied c.in-Done.is c.read_short-reply.ensures)
-
-pub shape_of-out-in-Refused : goal.shape_of-out-in-Refused
-shape_of-out-in-Refused c = c.read_short-reply.auto.out
-
-pub returns-in-Refused : goal.returns-in-Refused
-returns-in-Refused c = coded_refused c.in-Refused.r c.refusal_code.ensures
-    (replied c.in-Refused.is c.read_short-reply.ensures)
+pub returns : goal.returns
+returns c = coded c.reply_code.type_inv c.reply_code.ensures c.read_short.ensures

@@ -4,4 +4,4 @@ use lib.ListN.{length}
 use Rattle.dunefork.proofs.dunefork_shown_length.Goals as goal
 
 pub returns : goal.returns
-returns c = ap length c.shown-part.ensures
+returns c = ap length c.shown.ensures

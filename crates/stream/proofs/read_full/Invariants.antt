@@ -1,6 +1,9 @@
--- `stream::read_full` meets its contract: what has come fits the buffer.
-use Rattle.std.proofs.Common.{◌≤◌, length}
+-- `stream::read_full` meets its contract: what has come fits the buffer, and each turn but the last reads a byte or more.
+use Rattle.std.proofs.Common.{◌-◌, ◌≤◌, length}
 use Rattle.stream.proofs.read_full.Given as goal
 
-abbrev pub invariant-loop : goal.invariant-loop
-invariant-loop g l = l.size ≤ length l.buffer
+abbrev pub invariant-loop-size : goal.invariant-loop-size
+invariant-loop-size g l = l.size ≤ length l.buffer
+
+abbrev pub decreases-loop-size : goal.decreases-loop-size
+decreases-loop-size g l = length l.buffer - l.size

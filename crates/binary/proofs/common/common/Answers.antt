@@ -6,9 +6,6 @@ use Rattle.binary.proofs.common.common.Goals as goal
 pub loop-y-init : goal.loop-y-init
 loop-y-init c = let b = ratio_bounds c.requires in (c.requires.two, c.requires.cap, b.0, b.1, factors_start _ _)
 
-pub remainder-r-requires : goal.remainder-r-requires
-remainder-r-requires c = let v = c.loop-y.invariant in (v.1, omega arith, omega (arith, v.1, v.2))
-
 pub loop-y-smaller : goal.loop-y-smaller
 loop-y-smaller c = remainder_bound _ (omega arith) _ c.remainder-r.ensures
 

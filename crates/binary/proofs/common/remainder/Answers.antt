@@ -3,28 +3,14 @@ use native.Mathlib.Omega.{arith}
 use Rattle.binary.proofs.CommonFactor.{down_start, down_turn, down_end}
 use Rattle.binary.proofs.common.remainder.Goals as goal
 
-pub degree-s-requires : goal.degree-s-requires
-degree-s-requires c = omega arith
-
-pub overflow_sub-i : goal.overflow_sub-i
-overflow_sub-i c = let p = c.requires in let v = down_start _ _ _ p.0 p.1 p.2 c.degree-s.ensures in omega (arith, v.0)
+pub overflow_step-i : goal.overflow_step-i
+overflow_step-i c = let p = c.requires in let v = down_start _ _ _ p.0 p.1 p.2 c.degree-s.ensures in omega (arith, v.0)
 
 pub loop-i-init : goal.loop-i-init
-loop-i-init c = let p = c.requires in let v = down_start _ _ _ p.0 p.1 p.2 c.degree-s.ensures in
-    (p.2, omega (arith, v.0), v.1)
-
-pub overflow_sub-i-in-loop-i : goal.overflow_sub-i-in-loop-i
-overflow_sub-i-in-loop-i c = omega arith
-
-pub strike-r-requires : goal.strike-r-requires
-strike-r-requires c = let v = c.loop-i.invariant in (v.0, omega (arith, v.1))
-
-pub loop-i-smaller : goal.loop-i-smaller
-loop-i-smaller c = omega arith
+loop-i-init c = let p = c.requires in let v = down_start _ _ _ p.0 p.1 p.2 c.degree-s.ensures in (p.2, omega (arith, v.0), v.1)
 
 pub loop-i-preserved : goal.loop-i-preserved
-loop-i-preserved c = let v = c.loop-i.invariant in
-    (v.0, omega (arith, v.1), down_turn _ _ _ _ _ _ (omega arith) c.strike-r.ensures v.2)
+loop-i-preserved c = let v = c.loop-i.invariant in (v.0, omega (arith, v.1), down_turn _ _ _ _ _ _ (omega arith) c.strike-r.ensures v.2)
 
 pub returns : goal.returns
 returns c = down_end _ _ _ _ _ (omega arith) c.loop-i.invariant.2

@@ -7,6 +7,3 @@ use Rattle.binary.proofs.common.remainder.Given as goal
 
 abbrev pub invariant-loop-i : goal.invariant-loop-i
 invariant-loop-i l = (l.b < 512) × (l.s + l.i ≤ 9) × (divide_down l.s l.b l.i l.r ≡ remainderOf (degree_of l.b) l.b l.a)
-
-abbrev pub decreases-loop-i : goal.decreases-loop-i
-decreases-loop-i l = l.i

@@ -7,6 +7,3 @@ use Rattle.binary.proofs.independence.power_modulo.Given as goal
 
 abbrev pub invariant-loop-i : goal.invariant-loop-i
 invariant-loop-i l = Modulus l.f l.u × (l.r < 2 ^ l.u) × (l.r ≡ remainderOf l.u l.f (2 ^ (l.n / 2 ^ l.i))) × (l.i ≤ 15)
-
-abbrev pub decreases-loop-i : goal.decreases-loop-i
-decreases-loop-i l = l.i

@@ -7,7 +7,4 @@ use Rattle.binary.specs.Packed.{packed, places_in}
 use Rattle.binary.proofs.packed.multiply.Given as goal
 
 abbrev pub invariant-loop-i : goal.invariant-loop-i
-invariant-loop-i l = (length l.product ≡ length l.initial.product) × (length l.initial.product ≡ length l.g) × (l.d ≤ 64) × (l.i ≤ l.d) × (packed l.g < 2 ^ places_in l.g) × (packed l.product ≡ clmul (l.f / 2 ^ l.i) (packed l.g) % 2 ^ places_in l.g)
-
-abbrev pub decreases-loop-i : goal.decreases-loop-i
-decreases-loop-i l = l.i
+invariant-loop-i l = (length l.product ≡ length l.initial.product) × (length l.initial.product ≡ length l.g) × (l.d ≤ 64) × (packed l.g < 2 ^ places_in l.g) × (packed l.product ≡ clmul (l.f / 2 ^ l.i) (packed l.g) % 2 ^ places_in l.g)

@@ -10,9 +10,6 @@ times_x-a-requires c = (c.requires, omega (arith, modulus_two c.requires))
 pub loop-a-init : goal.loop-a-init
 loop-a-init c = let m = c.requires in (m, times_lt m _ c.times_x-a.ensures, c.times_x-a.ensures, omega arith, period_pos _)
 
-pub times_x-a-requires-in-loop-a : goal.times_x-a-requires-in-loop-a
-times_x-a-requires-in-loop-a c = let v = c.loop-a.invariant in (v.0, v.1)
-
 pub overflow_add-p : goal.overflow_add-p
 overflow_add-p c = let v = c.loop-a.invariant in omega (arith, period_lt v.0, modulus_cap v.0, v.4)
 

@@ -1,10 +1,6 @@
 -- `binary::period::times_x` meets its contract: f is taken off exactly where the coefficient of x^u came up.
-use native.Mathlib.Omega.{arith}
-use Rattle.binary.proofs.MaskPeriod.{modulus_cap, times_set, times_clear}
+use Rattle.binary.proofs.MaskPeriod.{times_set, times_clear}
 use Rattle.binary.proofs.period.times_x.Goals as goal
-
-pub overflow_mul-d : goal.overflow_mul-d
-overflow_mul-d c = omega (arith, modulus_cap c.requires.0)
 
 pub returns-then-d-u-eq1 : goal.returns-then-d-u-eq1
 returns-then-d-u-eq1 c = let p = c.requires in times_set p.0 _ p.1 c.if-d-u-eq1.true

@@ -2,18 +2,14 @@
 use mathlib.Core.Path.{sym, ap, ◌∙◌}
 use mathlib.Core.Bool.{not}
 use Prim.Native.Nat.{ℕ}
-use native.Mathlib.Omega.{arith}
 use Rattle.binary.specs.Factor.{coprime}
 use Rattle.document.proofs.Tested.{apart_is, apart_coprime}
 use Rattle.certificate.proofs.rules.factors_shared.Goals as goal
 
-pub returns-then-coprime : goal.returns-then-coprime
-returns-then-coprime c = let s = c in
-    let e = ap (λ (x : ℕ). coprime x s.args.n) (sym c.period.ensures) ∙ sym c.coprime.ensures ∙ c.if-coprime.true in
-    sym (ap not (apart_coprime s.requires.1 s.requires.0 e))
+pub returns-then-not-coprime : goal.returns-then-not-coprime
+returns-then-not-coprime c = let p = c.requires in ap not (c.independent.ensures ∙ sym (apart_is p.1 p.0))
 
-pub independent-requires : goal.independent-requires
-independent-requires c = let p = c.requires in (p.0, omega (arith, p.1.odd.least), omega (arith, p.1.odd.most))
-
-pub returns : goal.returns
-returns c = let p = c.requires in ap not (c.independent.ensures ∙ sym (apart_is p.1 p.0))
+pub returns-else-not-coprime : goal.returns-else-not-coprime
+returns-else-not-coprime c = let p = c.requires in
+    let e = ap (λ (x : ℕ). coprime x c.args.n) (sym c.period.ensures) ∙ sym c.coprime.ensures ∙ c.if-not-coprime.false in
+    ap not (c.if-not-coprime.false ∙ sym (apart_coprime p.1 p.0 e))

@@ -34,8 +34,5 @@ judge_stated-requires c = (
   c.requires,
 )
 
-pub shape_of-representatives : goal.shape_of-representatives
-shape_of-representatives c = c.judge_stated.auto.representatives
-
 pub returns : goal.returns
 returns c = into_pass short_limits _ _ (sym c.wrong_length.ensures ∙ c.if-wrong_length.false) c.code_length-n.ensures.0 (sym c.wrong_code_length.ensures ∙ c.if-wrong_code_length.false) c.order_of_two-s.ensures (omega arith) (sym c.wrong_header.ensures ∙ c.if-wrong_header.false) c.judge_stated.ensures

@@ -1,24 +1,18 @@
 -- `code::marked::shown` meets its contract: the first bytes, or all.
 use native.Mathlib.Omega.{arith}
-use mathlib.Core.Path.{sym}
-use lib.Seq.{length-take-le}
-use Rattle.code.proofs.Parted.{part_zeros, all_zeros, part_ones, all_ones}
+use mathlib.Core.Path.{ap}
+use lib.ListN.{length}
+use Rattle.std.specs.Prelude.{◌≡◌, min}
+use Rattle.std.specs.Int.{div_ceil}
+use Rattle.code.proofs.Parted.{part_zeros, part_ones}
 use Rattle.code.proofs.marked.shown.Goals as goal
+use Rattle.code.proofs.marked.shown.Goals.{then-is_first, else-is_first}
 
-pub slice_bounds-result-end : goal.slice_bounds-result-end
-slice_bounds-result-end c = sym (length-take-le _ _ (omega arith))
-
-pub slice_bounds-result-end-then-size-ones : goal.slice_bounds-result-end-then-size-ones
-slice_bounds-result-end-then-size-ones c = sym (length-take-le _ _ (omega arith))
-
-pub returns-then-size-zeros : goal.returns-then-size-zeros
-returns-then-size-zeros c = part_zeros _ _ _ _ (omega arith)
-
-pub returns-else-size-zeros : goal.returns-else-size-zeros
-returns-else-size-zeros c = all_zeros _ _ _ _ (omega arith) (omega arith)
-
-pub returns-then-size-ones : goal.returns-then-size-ones
-returns-then-size-ones c = part_ones _ _ _ _ (omega arith)
-
-pub returns-else-size-ones : goal.returns-else-size-ones
-returns-else-size-ones c = all_ones _ _ _ _ (omega arith) (omega arith)
+pub returns : goal.returns
+returns c =
+    let a = c.args in
+    let e : c.min.result ≡ min (div_ceil a.n 8) (length c.if-is_first.buffer.now) = omega arith in
+    elim c.if-is_first.branch [
+      | then-is_first w ↦ part_zeros a.trial a.n a.zeros.now a.ones.now e w.if-is_first.true (ap (λ r. r.now) w.buffer-is)
+      | else-is_first w ↦ part_ones a.trial a.n a.zeros.now a.ones.now e w.if-is_first.false (ap (λ r. r.now) w.buffer-is)
+    ]

@@ -3,5 +3,5 @@ use native.Mathlib.Omega.{arith}
 use Rattle.codeword.proofs.Interleaving.{bit_past}
 use Rattle.codeword.proofs.block.block_bit.Goals as goal
 
-pub returns : goal.returns
-returns c = bit_past _ _ (omega arith)
+pub returns-else-p-block : goal.returns-else-p-block
+returns-else-p-block c = bit_past _ _ (omega arith)

@@ -19,54 +19,38 @@ returns-then-zeros-size c = marked_zeros _ _ _ _ (c.if-word-size.false ∙ c.byt
 pub returns-then-ones-size : goal.returns-then-ones-size
 returns-then-ones-size c = marked_ones _ _ _ _ (c.if-word-size.false ∙ c.bytes_for-size.ensures) (c.if-marks-size.false ∙ c.bytes_for-size.ensures) (c.if-zeros-size.false ∙ c.bytes_for-size.ensures) (λ e. c.if-ones-size.true (e ∙ sym c.bytes_for-size.ensures))
 
-pub returns-then-spare_word : goal.returns-then-spare_word
-returns-then-spare_word c = marked_spare _ _ _ _ (c.if-word-size.false ∙ c.bytes_for-size.ensures) (c.if-marks-size.false ∙ c.bytes_for-size.ensures) (c.if-zeros-size.false ∙ c.bytes_for-size.ensures) (c.if-ones-size.false ∙ c.bytes_for-size.ensures) (sym c.spare_word.ensures ∙ c.if-spare_word.true)
+pub returns-then-spare : goal.returns-then-spare
+returns-then-spare c = marked_spare _ _ _ _ (c.if-word-size.false ∙ c.bytes_for-size.ensures) (c.if-marks-size.false ∙ c.bytes_for-size.ensures) (c.if-zeros-size.false ∙ c.bytes_for-size.ensures) (c.if-ones-size.false ∙ c.bytes_for-size.ensures) (sym c.spare.ensures ∙ c.if-spare.true)
 
-pub returns-then-spare_word-2 : goal.returns-then-spare_word-2
-returns-then-spare_word-2 c = marked_marks_spare _ _ _ _ (c.if-word-size.false ∙ c.bytes_for-size.ensures) (c.if-marks-size.false ∙ c.bytes_for-size.ensures) (c.if-zeros-size.false ∙ c.bytes_for-size.ensures) (c.if-ones-size.false ∙ c.bytes_for-size.ensures) (sym c.spare_word.ensures ∙ c.if-spare_word.false) (sym c.spare_word-2.ensures ∙ c.if-spare_word-2.true)
-
-pub overflow_mul-trials : goal.overflow_mul-trials
-overflow_mul-trials c = omega (arith, c.bytes_for-size.ensures, few_bytes c.args.n c.requires.2)
+pub returns-then-spare-2 : goal.returns-then-spare-2
+returns-then-spare-2 c = marked_marks_spare _ _ _ _ (c.if-word-size.false ∙ c.bytes_for-size.ensures) (c.if-marks-size.false ∙ c.bytes_for-size.ensures) (c.if-zeros-size.false ∙ c.bytes_for-size.ensures) (c.if-ones-size.false ∙ c.bytes_for-size.ensures) (sym c.spare.ensures ∙ c.if-spare.false) (sym c.spare-2.ensures ∙ c.if-spare-2.true)
 
 pub slice_bounds-trials-end : goal.slice_bounds-trials-end
-slice_bounds-trials-end c = omega (arith, c.bytes_for-size.ensures, few_bytes c.args.n c.requires.2)
+slice_bounds-trials-end c = omega (arith, c.bytes_for-size.ensures, few_bytes c.args.code.now.n c.requires.1)
 
 pub slice_bounds-decode_trials-end : goal.slice_bounds-decode_trials-end
-slice_bounds-decode_trials-end c = sym (length-take-le _ _ (omega (arith, c.bytes_for-size.ensures, few_bytes c.args.n c.requires.2)))
-
-pub overflow_mul-decoded : goal.overflow_mul-decoded
-overflow_mul-decoded c = omega (arith, c.bytes_for-size.ensures, few_bytes c.args.n c.requires.2)
+slice_bounds-decode_trials-end c = sym (length-take-le _ _ (omega (arith, c.bytes_for-size.ensures, few_bytes c.args.code.now.n c.requires.1)))
 
 pub slice_bounds-decoded-end : goal.slice_bounds-decoded-end
-slice_bounds-decoded-end c = omega (arith, c.bytes_for-size.ensures, few_bytes c.args.n c.requires.2)
+slice_bounds-decoded-end c = omega (arith, c.bytes_for-size.ensures, few_bytes c.args.code.now.n c.requires.1)
 
 pub slice_bounds-decode_trials-end-2 : goal.slice_bounds-decode_trials-end-2
-slice_bounds-decode_trials-end-2 c = sym (length-take-le _ _ (omega (arith, c.bytes_for-size.ensures, few_bytes c.args.n c.requires.2)))
+slice_bounds-decode_trials-end-2 c = sym (length-take-le _ _ (omega (arith, c.bytes_for-size.ensures, few_bytes c.args.code.now.n c.requires.1)))
 
 pub decode_trials-requires : goal.decode_trials-requires
 decode_trials-requires c = let p = c.requires in
-    let f = few_bytes c.args.n p.2 in
+    let f = few_bytes c.args.code.now.n p.1 in
     let s = c.bytes_for-size.ensures in (
-      p.0,
       record {
         word_long = (c.if-word-size.false ∙ c.bytes_for-size.ensures);
         marks_long = (c.if-marks-size.false ∙ c.bytes_for-size.ensures);
         zeros_long = (c.if-zeros-size.false ∙ c.bytes_for-size.ensures);
         ones_long = (c.if-ones-size.false ∙ c.bytes_for-size.ensures);
-        clear = sym c.spare_word.ensures ∙ c.if-spare_word.false;
-        marks_clear = sym c.spare_word-2.ensures ∙ c.if-spare_word-2.false;
+        clear = sym c.spare.ensures ∙ c.if-spare.false;
+        marks_clear = sym c.spare-2.ensures ∙ c.if-spare-2.false;
       },
       length-take-le _ _ (omega (arith, s, f)) ∙ sym (ap (λ x. 2 * x) c.if-word-size.false),
       length-take-le _ _ (omega (arith, s, f)) ∙ sym (ap (λ x. 2 * x) c.if-word-size.false),
+      p.0,
       p.1,
-      p.2,
     )
-
-pub shape_of-zeros : goal.shape_of-zeros
-shape_of-zeros c = c.decode_trials.auto.zeros
-
-pub shape_of-ones : goal.shape_of-ones
-shape_of-ones c = c.decode_trials.auto.ones
-
-pub returns : goal.returns
-returns c = c.decode_trials.ensures

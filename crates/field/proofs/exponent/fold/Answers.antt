@@ -2,15 +2,8 @@
 use native.Mathlib.Omega.{arith}
 use mathlib.Core.Path.{ap}
 use Prim.Native.Nat.{ℕ, ◌+◌, ◌/◌, ◌^◌}
-use Rattle.field.proofs.Primitive.{Degree-bounds}
 use Rattle.field.proofs.Exponents.{masked, folded_lt}
 use Rattle.field.proofs.exponent.fold.Goals as goal
-
-pub overflow_add-result : goal.overflow_add-result
-overflow_add-result c = let a = c in
-    let f = folded_lt a.args.s a.args.y a.requires.1 in
-    let m = masked a.args.s a.args.y c.order.ensures in
-    omega (arith, m, f.0, f.1, (Degree-bounds a.requires.0).1)
 
 pub returns : goal.returns
 returns c = let a = c in

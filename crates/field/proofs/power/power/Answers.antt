@@ -6,24 +6,14 @@ use Rattle.field.proofs.Shifts.{power_start, power_turn, power_end}
 use Rattle.field.proofs.power.power.Goals as goal
 
 pub loop-e-init : goal.loop-e-init
-loop-e-init c = (c.requires.0, one_lt c.requires.0, c.requires.1, power_start c.requires.0 _ _)
-
-pub with_factor-r-requires : goal.with_factor-r-requires
-with_factor-r-requires c = let v = c.loop-e.invariant in (v.0, v.1, v.2)
-
-pub multiply-x-requires : goal.multiply-x-requires
-multiply-x-requires c = let v = c.loop-e.invariant in (v.0, v.2, v.2)
-
-pub loop-e-smaller : goal.loop-e-smaller
-loop-e-smaller c = omega arith
+loop-e-init c = let d = c.requires.0 in record { r_element = one_lt d; x_element = c.requires.1; same = power_start d _ _ }
 
 pub loop-e-preserved : goal.loop-e-preserved
-loop-e-preserved c = let v = c.loop-e.invariant in let r = c.with_factor-r.ensures in let x = c.multiply-x.ensures in (
-  v.0,
-  product_lt v.0 _ _ r,
-  product_lt v.0 _ _ x,
-  power_turn v.0 _ _ _ _ _ r x ∙ v.3,
-)
+loop-e-preserved c = let d = c.requires.0 in let r = c.with_factor-r.ensures in let x = c.multiply-x.ensures in record {
+  r_element = product_lt d _ _ r;
+  x_element = product_lt d _ _ x;
+  same = power_turn d _ _ _ _ _ r x ∙ c.loop-e.invariant.same;
+}
 
 pub returns : goal.returns
-returns c = let v = c.loop-e.invariant in sym (power_end v.0 _ _ _ v.1 (omega arith)) ∙ v.3
+returns c = let v = c.loop-e.invariant in sym (power_end c.requires.0 _ _ _ v.r_element (omega arith)) ∙ v.same

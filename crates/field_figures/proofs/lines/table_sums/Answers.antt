@@ -3,5 +3,5 @@ use native.Mathlib.Omega.{arith}
 use Rattle.field_figures.proofs.Laws.{tables_fit}
 use Rattle.field_figures.proofs.lines.table_sums.Goals as goal
 
-pub fill-requires : goal.fill-requires
-fill-requires c = tables_fit c.requires (omega arith) (omega arith)
+pub fill-tables-requires : goal.fill-tables-requires
+fill-tables-requires c = tables_fit c.requires (omega arith) (omega arith)

@@ -2,55 +2,43 @@
 use native.Mathlib.Omega.{arith}
 use mathlib.Core.Path.{ap}
 use Prim.Native.Nat.{ℕ, ◌/◌}
-use Rattle.field.proofs.Exponents.{powered_of}
-use Rattle.locator.proofs.Searching.{length_le, multiple_lt, multiple_fits, walkable, located, located_alone}
+use Rattle.locator.proofs.Reading.{listed_cut}
+use Rattle.locator.proofs.Searching.{multiple_lt, multiple_fits, listable, logged_by, places_by, located, located_alone}
 use Rattle.locator.proofs.locate.locate.Goals as goal
 
 pub overflow_mul-back : goal.overflow_mul-back
-overflow_mul-back c = let p = c.requires in record { fits = multiple_fits p (ap (λ (x : ℕ). x / c.args.n) c.order.ensures) (omega (arith, p.z_lo, p.odd.least)) }
+overflow_mul-back c = let p = c.requires in record { fits = multiple_fits c.args.tables.now.filled p (ap (λ (x : ℕ). x / c.args.n) c.order.ensures) (omega (arith, p.z_lo, p.odd.least)) }
 
 pub list_terms-count-requires : goal.list_terms-count-requires
-list_terms-count-requires c = let p = c.requires in walkable p (multiple_lt p (ap (λ (x : ℕ). x / c.args.n) c.order.ensures) (omega (arith, p.z_lo, p.odd.least)))
+list_terms-count-requires c = let p = c.requires in listable c.args.tables.now.filled p (multiple_lt c.args.tables.now.filled p (ap (λ (x : ℕ). x / c.args.n) c.order.ensures) (omega (arith, p.z_lo, p.odd.least)))
+
+pub invariant_of-list : goal.invariant_of-list
+invariant_of-list c = let l = c.list_terms-count in
+    let v = listed_cut l.new.terms l.new.lanes l.ensures in
+    record { listed = logged_by c.power_table.ensures.0 v.listed }
 
 pub search_fours-requires : goal.search_fours-requires
-search_fours-requires c = let p = c.requires in (powered_of p.tables, c.list_terms-count.ensures.listed, length_le p.odd p.s_is p.tables, p.list_long, omega (arith, p.odd.most))
-
-pub shape_of-exponents-then-u-eq1 : goal.shape_of-exponents-then-u-eq1
-shape_of-exponents-then-u-eq1 c = c.list_terms-count.auto.exponents
-
-pub shape_of-steps-then-u-eq1 : goal.shape_of-steps-then-u-eq1
-shape_of-steps-then-u-eq1 c = c.list_terms-count.auto.steps
-
-pub shape_of-low-then-u-eq1 : goal.shape_of-low-then-u-eq1
-shape_of-low-then-u-eq1 c = c.list_terms-count.auto.low
-
-pub shape_of-high-then-u-eq1 : goal.shape_of-high-then-u-eq1
-shape_of-high-then-u-eq1 c = c.list_terms-count.auto.high
-
-pub shape_of-places-then-u-eq1 : goal.shape_of-places-then-u-eq1
-shape_of-places-then-u-eq1 c = c.search_fours.auto.places
+search_fours-requires c = places_by c.power_table.ensures.0 c.args.tables.now.filled c.requires
 
 pub returns-then-u-eq1 : goal.returns-then-u-eq1
-returns-then-u-eq1 c = located_alone c.requires (ap (λ (x : ℕ). x / c.args.n) c.order.ensures) c.list_terms-count.ensures c.if-u-eq1.true c.search_fours.ensures
+returns-then-u-eq1 c = let l = c.list_terms-count in
+    let v = listed_cut l.new.terms l.new.lanes l.ensures in
+    located_alone c.args.tables.now.filled c.requires (ap (λ (x : ℕ). x / c.args.n) c.order.ensures) c.power_table.ensures.0 v c.if-u-eq1.true c.search_fours.ensures
+
+pub invariant_of-list-2 : goal.invariant_of-list-2
+invariant_of-list-2 c = let l = c.list_terms-count in
+    let v = listed_cut l.new.terms l.new.lanes l.ensures in
+    record { listed = logged_by c.power_table.ensures.0 v.listed }
+
+pub invariant_of-search : goal.invariant_of-search
+invariant_of-search c = let l = c.list_terms-count in
+    let v = listed_cut l.new.terms l.new.lanes l.ensures in
+    record { laned = v.laned }
 
 pub search-requires : goal.search-requires
-search-requires c = let p = c.requires in let v = c.list_terms-count.ensures in
-    (record { powered = powered_of p.tables; listed = v.listed; laned = v.laned }, length_le p.odd p.s_is p.tables, p.list_long, omega (arith, p.odd.most))
-
-pub shape_of-exponents : goal.shape_of-exponents
-shape_of-exponents c = c.list_terms-count.auto.exponents
-
-pub shape_of-steps : goal.shape_of-steps
-shape_of-steps c = c.list_terms-count.auto.steps
-
-pub shape_of-low : goal.shape_of-low
-shape_of-low c = c.list_terms-count.auto.low
-
-pub shape_of-high : goal.shape_of-high
-shape_of-high c = c.list_terms-count.auto.high
-
-pub shape_of-places : goal.shape_of-places
-shape_of-places c = c.search.auto.places
+search-requires c = places_by c.power_table.ensures.0 c.args.tables.now.filled c.requires
 
 pub returns : goal.returns
-returns c = located c.requires (ap (λ (x : ℕ). x / c.args.n) c.order.ensures) c.list_terms-count.ensures c.search.ensures
+returns c = let l = c.list_terms-count in
+    let v = listed_cut l.new.terms l.new.lanes l.ensures in
+    located c.args.tables.now.filled c.requires (ap (λ (x : ℕ). x / c.args.n) c.order.ensures) c.power_table.ensures.0 v c.search.ensures

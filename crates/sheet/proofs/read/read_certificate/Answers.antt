@@ -4,9 +4,6 @@ use Rattle.document.specs.Short.{short}
 use Rattle.sheet.proofs.Reading.{within, certificate_read, read_is}
 use Rattle.sheet.proofs.read.read_certificate.Goals as goal
 
-pub byte-requires : goal.byte-requires
-byte-requires c = let k = c.requires.0 in omega (arith, k.long)
-
 pub overflow_mul-at : goal.overflow_mul-at
 overflow_mul-at c = let w = within c.requires.0 c.requires.1 in omega (arith, w.four)
 

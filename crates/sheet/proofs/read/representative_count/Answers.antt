@@ -5,8 +5,5 @@ use Rattle.document.proofs.Stated.{representatives_length}
 use Rattle.document.specs.Short.{short}
 use Rattle.sheet.proofs.read.representative_count.Goals as goal
 
-pub byte-requires : goal.byte-requires
-byte-requires c = let k = c.requires in omega (arith, k.long)
-
 pub returns : goal.returns
 returns c = (c.byte.ensures.0 ∙ sym (representatives_length short _), let k = c.requires in omega (arith, k.few, c.byte.ensures.0))

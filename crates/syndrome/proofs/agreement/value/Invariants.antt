@@ -1,11 +1,8 @@
 -- `syndrome::agreement::value` meets its contract: the first k places of the list are in the sum.
-use Prim.Native.Nat.{◌-◌, ◌≤◌}
-use Rattle.syndrome.specs.Sums.{Valuable}
+use Prim.Native.Nat.{◌≤◌}
+use lib.ListN.{length}
 use Rattle.syndrome.proofs.ValueSums.{Valuing}
 use Rattle.syndrome.proofs.agreement.value.Given as goal
 
-abbrev pub invariant-loop-k : goal.invariant-loop-k
-invariant-loop-k l = Valuable l.c l.s l.by l.places l.powers × (l.k ≤ l.c) × Valuing l.s l.by l.k l.acc l.places
-
-abbrev pub decreases-loop-k : goal.decreases-loop-k
-decreases-loop-k l = l.c - l.k
+abbrev pub invariant-loop-place : goal.invariant-loop-place
+invariant-loop-place l = (l.place-index ≤ length l.places) × Valuing l.power_table.s l.by l.place-index l.acc l.places

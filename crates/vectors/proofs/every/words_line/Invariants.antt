@@ -1,9 +1,6 @@
 -- The checksum stays below its modulus.
-use Rattle.std.proofs.Common.{◌<◌, ◌-◌}
+use Rattle.std.proofs.Common.{◌<◌}
 use Rattle.vectors.proofs.every.words_line.Given as goal
 
 abbrev pub invariant-loop-word : goal.invariant-loop-word
 invariant-loop-word g l = l.checksum < 4294967291
-
-abbrev pub decreases-loop-word : goal.decreases-loop-word
-decreases-loop-word g l = l.end - l.word

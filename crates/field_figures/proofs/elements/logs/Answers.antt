@@ -1,5 +1,0 @@
--- `field_figures::elements::logs` meets its contract: the checksum stays below its modulus.
-use Rattle.field_figures.proofs.elements.logs.Goals as goal
-
-pub size-end-requires : goal.size-end-requires
-size-end-requires c = c.requires.degree

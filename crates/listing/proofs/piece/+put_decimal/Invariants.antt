@@ -1,5 +1,0 @@
--- `listing::piece::put_decimal` ends: x / 10 is smaller.
-use Rattle.listing.proofs.piece.+put_decimal.Given as goal
-
-abbrev pub decreases-put_decimal : goal.decreases-put_decimal
-decreases-put_decimal l = l.x

@@ -227,7 +227,7 @@ module _ (sheet : List ℕ) where
     pub apart : IsAccepted sheet → (c c' : ℕ) → CodewordOf x c → CodewordOf x c' → c ≢ c' → d ≤ differences x.n c c'
 
   -- ---- 2026-02, the encoder keeps only a remainder: of the bits of a mask a, taken in from the highest of so many bits down. That the
-  -- code's register holds it after each bit is taken_kept of proofs/Kept.antt, by the invariant of take_message; that no reply or written
+  -- code's register holds it after each bit is taken_kept of proofs/Kept.antt, by the invariant of take_places; that no reply or written
   -- byte differs is that encode_of and read_of, and the contracts with them, are as they were; of buffers no contract speaks.
   abbrev checks : ℕ
   checks = x.n - k

@@ -1,5 +1,6 @@
--- Places changed one by one.
+-- Bytes copied, and places changed one by one.
 --
+--   Copying, copying_start, copying_more, copying_end          bytes copied, one by one
 --   bit_le          a place is 0 or 1
 --   places_put      a place set to its other value is x^i added to the mask
 --   repaired_start, repaired_more      places changed, one by one
@@ -11,8 +12,8 @@ use Prim.Native.Nat.{ℕ, zero, suc, ◌+◌, ◌-◌, ◌*◌, ◌^◌, ◌≤�
 use native.Mathlib.Decide.{ℕ_discrete}
 use native.Mathlib.Numerals.{add-one}
 use native.Mathlib.Omega.{arith}
-use lib.ListN.{length, get_or, take}
-use lib.Seq.{get_or-take, length-take-le}
+use lib.ListN.{length, get_or, set, length-set, take}
+use lib.Seq.{get_or-set_same, get_or-set_other, ext_get_or, get_or-take, length-take-le}
 use Rattle.field.specs.Mask.{◌⊕◌, coefficient}
 use Rattle.field.proofs.Xor.{digit, ⊕-zero-l, ⊕-zero-r, ⊕-self, ⊕-assoc, bit_⊕}
 use Rattle.document.specs.Layout.{word_weight, place}
@@ -22,6 +23,28 @@ use Rattle.syndrome.proofs.Listing.{over_z, over_s}
 use Rattle.codeword.specs.Place.{Put}
 use Rattle.codeword.proofs.Places.{place_lt}
 use Rattle.decoder.specs.Repair.{PlacesOf, Repairable, Repaired, Reached}
+
+-- ---- bytes
+pub record Copying (i : ℕ) (from to : List ℕ) : Type 0 where
+  pub long : length to ≡ length from
+  pub at : (j : ℕ) → j < i → get_or to j 0 ≡ get_or from j 0
+
+pub copying_start : {from to : List ℕ} → length to ≡ length from → Copying 0 from to
+copying_start e = record { long = e; at = λ j h. absurd (omega arith) }
+
+pub copying_more : {i v : ℕ} {from to : List ℕ} → i < length from → v ≡ get_or from i 0 → Copying i from to
+    → Copying (i + 1) from (set to i v)
+copying_more {i} {v} {from} {to} h e t = record {
+  long = simp length-set t.long;
+  at = λ j l. elim (ℕ_discrete j i) [
+    | yes q ↦ ap (λ (k : ℕ). get_or (set to i v) k 0) q ∙ get_or-set_same to i v 0 (omega (arith, t.long)) ∙ e
+        ∙ sym (ap (λ (k : ℕ). get_or from k 0) q)
+    | no q ↦ get_or-set_other to i j v 0 q ∙ t.at j (omega arith)
+  ];
+}
+
+pub copying_end : {i : ℕ} {from to : List ℕ} → length from ≤ i → Copying i from to → to ≡ from
+copying_end {i} {from} {to} h t = ext_get_or 0 to from t.long (λ j l. t.at j (omega (arith, t.long)))
 
 -- ---- one place
 pub bit_le : (i : ℕ) {bit : ℕ} (bytes : List ℕ) → bit ≡ place word_weight bytes i → bit ≤ 1

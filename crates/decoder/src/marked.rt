@@ -8,6 +8,7 @@ ghost use Rattle.std.specs.Prelude.{◌≡◌, ◌*◌, ◌<◌, ◌≤◌, leng
 ghost use Rattle.document.specs.Answer.{marked_as};
 ghost use Rattle.decoder.specs.Marked.{Markable, MarkedDecoded};
 
+use crate::repair::copy;
 use crate::stated::StatedCode;
 use crate::tables::decode_words;
 use crate::trials::{show, write_trials};
@@ -30,7 +31,7 @@ fn decode_trials(
 {
     let mut verdicts = [None; 2];
     write_trials(word, marks, trials);
-    decoded.copy_from_slice(trials);
+    copy(trials, decoded);
     decode_words(code, code.n, word.len(), trials, decoded, &mut verdicts);
     show(
         d,

@@ -3,6 +3,7 @@ ghost use Rattle.std.specs.Prelude.{◌≡◌, ◌*◌, ◌≤◌, length};
 ghost use Rattle.document.specs.Answer.{marked_as};
 ghost use Rattle.decoder.specs.Marked.{TrialsWritten, marks_in, unmarked_in, measured_as, Measured, Weighable, Showable, OnesShown, TrialsShown};
 
+use crate::repair::copy;
 use document::types::{Refusal, Shown};
 
 // The word with all marked bits 0, and after it the word with all marked bits 1.
@@ -80,8 +81,8 @@ fn show_ones(
     let Some(e) = measure(d, r, verdict, word, marks, &decoded[size..]) else {
         return Err(Refusal::NoneWithMarks);
     };
-    zeros.copy_from_slice(&decoded[..size]);
-    ones.copy_from_slice(&decoded[size..]);
+    copy(&decoded[..size], zeros);
+    copy(&decoded[size..], ones);
     Ok(Shown {
         unmarked: e,
         trial: 1,
@@ -107,8 +108,8 @@ pub fn show(
     let Some(e) = measure(d, r, zeros_verdict, word, marks, &decoded[..size]) else {
         return show_ones(d, r, ones_verdict, word, marks, decoded, zeros, ones);
     };
-    zeros.copy_from_slice(&decoded[..size]);
-    ones.copy_from_slice(&decoded[size..]);
+    copy(&decoded[..size], zeros);
+    copy(&decoded[size..], ones);
     Ok(Shown {
         unmarked: e,
         trial: 0,

@@ -18,7 +18,10 @@ impl<'a> FieldTables<'a> {
         requires { (a < 2 ^ self.now.s) × (b < 2 ^ self.now.s) }
         ensures { result ≡ field_multiply self.now.s a b }
     {
-        if a == 0 || b == 0 {
+        if a == 0 {
+            return 0;
+        }
+        if b == 0 {
             return 0;
         }
         self.powers[self.log(a) + self.log(b)]

@@ -1,7 +1,8 @@
 -- The value of a coset's factor at ω by sums of logarithms.
 --
 --   Adding n s r m x sum     the sum is the logarithm of the value over m members, and x is the next
---   place_lt, element_lt, log_lt     the next element, ω + α^x off the tables, and its logarithm
+--   log_lt, log_power        the logarithm of an element that is not 0: its bound, and the element as a power by it
+--   place_lt, element_lt     the next element, ω + α^x off the tables
 --   coset_own                the coset, with s by its name
 --   adding_start, adding_more        it holds for none, and is kept
 --   adding_end, adding_zero          it ends in the factor, at the last member or at one whose element is 0
@@ -27,6 +28,19 @@ pub record Adding (n s r m x sum : ℕ) : Type 0 where
   pub sum_lt : sum < 2 ^ s - 1
   pub value_is : coset_value n s r m ≡ field_power s ω sum
 
+module _ {s a : ℕ} {e g : List ℕ} (o : OneRound s e g) (l : a < 2 ^ s) (h : a ≢ 0) where
+  logged : (k : ℕ) × (k < 2 ^ s - 1) × (field_power s ω k ≡ a)
+  logged = power_onto o.degree a l h
+
+  log_is : get_or g a 0 ≡ logged.0
+  log_is = ap (λ (b : ℕ). get_or g b 0) (sym logged.2) ∙ o.logs logged.0 logged.1
+
+  pub log_lt : get_or g a 0 < 2 ^ s - 1
+  log_lt = omega (arith, log_is, logged.1)
+
+  pub log_power : field_power s ω (get_or g a 0) ≡ a
+  log_power = ap (field_power s ω) log_is ∙ logged.2
+
 module _ {n s r : ℕ} (c : CosetOf n s r) where
   pub coset_own : CosetOf n (order_of_two n) r
   coset_own = subst (λ (i : ℕ). CosetOf n i r) c.s_is c
@@ -45,10 +59,11 @@ module _ {n s r : ℕ} (c : CosetOf n s r) where
     read_is : get_or e (x * q) 0 ≡ field_power s (α s n) x
     read_is = o.powers.at (x * q) place_lt ∙ root_is (degree_of c) n k x
 
-    pub element_lt : bit_xor (get_or e (x * q) 0) 2 < 2 ^ s
-    element_lt =
-        xor_lt s (get_or e (x * q) 0) 2 (subst (λ (b : ℕ). b < 2 ^ s) (sym read_is) (power_lt (degree_of c) (α s n) x))
-        (omega (arith, (Degree-bounds (degree_of c)).0))
+    -- with any constant of two bits: it bounds factor_at_one's elements too, so that this edit is refused for the value
+    pub element_lt : {y : ℕ} → y < 4 → bit_xor (get_or e (x * q) 0) y < 2 ^ s
+    element_lt {y} l =
+        xor_lt s (get_or e (x * q) 0) y (subst (λ (b : ℕ). b < 2 ^ s) (sym read_is) (power_lt (degree_of c) (α s n) x))
+        (omega (arith, l, (Degree-bounds (degree_of c)).0))
 
     more_is : field_multiply s (bit_xor (get_or e (x * q) 0) 2) (coset_value n s r m) ≡ coset_value n s r (m + 1)
     more_is = value_next c m t.walking.x_is read_is
@@ -61,35 +76,24 @@ module _ {n s r : ℕ} (c : CosetOf n s r) where
         sym more_is ∙ ap (λ (b : ℕ). field_multiply s b (coset_value n s r m)) z ∙ zero_multiply (degree_of c) (coset_value n s r m) in
         factored c w (sym (value_zero_on c (m + 1) M (omega (arith, walked_more t.walking w)) here))
 
-    module _ (h : bit_xor (get_or e (x * q) 0) 2 ≢ 0) where
-      logged : (k : ℕ) × (k < 2 ^ s - 1) × (field_power s ω k ≡ bit_xor (get_or e (x * q) 0) 2)
-      logged = power_onto (degree_of c) (bit_xor (get_or e (x * q) 0) 2) element_lt h
+    module _ {b end sum' : ℕ} (l : (b < 2 ^ s - 1) × (field_power s ω b ≡ bit_xor (get_or e (x * q) 0) 2)) (i : end ≡ 2 ^ s - 1) (f : sum' ≡ (sum + b) % end) where
+      sum_is : sum' ≡ (sum + b) % (2 ^ s - 1)
+      sum_is = f ∙ ap (λ (k : ℕ). (sum + b) % k) i
 
-      log_is : get_or g (bit_xor (get_or e (x * q) 0) 2) 0 ≡ logged.0
-      log_is = ap (λ (b : ℕ). get_or g b 0) (sym logged.2) ∙ o.logs logged.0 logged.1
+      pub more_lt : sum' < 2 ^ s - 1
+      more_lt =
+          let four = (Degree-bounds (degree_of c)).0 in
+          subst (λ (y : ℕ). y < 2 ^ s - 1) (sym sum_is) (mod-lt (sum + b) (omega arith))
 
-      pub log_lt : get_or g (bit_xor (get_or e (x * q) 0) 2) 0 < 2 ^ s - 1
-      log_lt = omega (arith, log_is, logged.1)
+      value_more : coset_value n s r (m + 1) ≡ field_power s ω sum'
+      value_more =
+          let swap : b + sum ≡ 0 + 1 * (sum + b) = omega arith in
+          let once : 0 + 1 * ((sum + b) % (2 ^ s - 1)) ≡ (sum + b) % (2 ^ s - 1) = omega arith in
+          sym more_is ∙ ap₂ (field_multiply s) (sym l.1) t.value_is ∙ power_add (degree_of c) ω b sum
+          ∙ ap (field_power s ω) swap ∙ sym (power_mod (degree_of c) 0 1 (sum + b)) ∙ ap (field_power s ω) (once ∙ sym sum_is)
 
-      module _ {end sum' : ℕ} (i : end ≡ 2 ^ s - 1) (f : sum' ≡ (sum + get_or g (bit_xor (get_or e (x * q) 0) 2) 0) % end) where
-        sum_is : sum' ≡ (sum + logged.0) % (2 ^ s - 1)
-        sum_is = f ∙ ap₂ (λ (b k : ℕ). (sum + b) % k) log_is i
+      pub adding_more : {y : ℕ} → y ≡ x * 2 % n → y ≢ r → Adding n s r (m + 1) y sum'
+      adding_more u v = record { walking = walking_more c t.walking u v; sum_lt = more_lt; value_is = value_more }
 
-        pub more_lt : sum' < 2 ^ s - 1
-        more_lt =
-            let four = (Degree-bounds (degree_of c)).0 in
-            subst (λ (y : ℕ). y < 2 ^ s - 1) (sym sum_is) (mod-lt (sum + logged.0) (omega arith))
-
-        value_more : coset_value n s r (m + 1) ≡ field_power s ω sum'
-        value_more =
-            let j : ℕ = logged.0 in
-            let swap : j + sum ≡ 0 + 1 * (sum + j) = omega arith in
-            let once : 0 + 1 * ((sum + j) % (2 ^ s - 1)) ≡ (sum + j) % (2 ^ s - 1) = omega arith in
-            sym more_is ∙ ap₂ (field_multiply s) (sym logged.2) t.value_is ∙ power_add (degree_of c) ω j sum
-            ∙ ap (field_power s ω) swap ∙ sym (power_mod (degree_of c) 0 1 (sum + j)) ∙ ap (field_power s ω) (once ∙ sym sum_is)
-
-        pub adding_more : {y : ℕ} → y ≡ x * 2 % n → y ≢ r → Adding n s r (m + 1) y sum'
-        adding_more u v = record { walking = walking_more c t.walking u v; sum_lt = more_lt; value_is = value_more }
-
-        pub adding_end : {y b f d : ℕ} → y ≡ x * 2 % n → y ≡ r → b ≡ field_power s ω sum' → FromValue s b (m + 1) f d → Factored n s r f d
-        adding_end u v p = factored c (walking_end c t.walking u v) (p ∙ sym value_more)
+      pub adding_end : {y v f d : ℕ} → y ≡ x * 2 % n → y ≡ r → v ≡ field_power s ω sum' → FromValue s v (m + 1) f d → Factored n s r f d
+      adding_end u w z = factored c (walking_end c t.walking u w) (z ∙ sym value_more)

@@ -1,7 +1,7 @@
 // The factor of a coset, the product of x - α^i over it, with no polynomial over the field: it is a mask of degree at most s, so it
 // is its own value at ω, the product of ω + α^i over the coset, plus the field's mask where its degree is s.
-ghost use Rattle.std.specs.Prelude.{◌≡◌, ◌-◌, ◌/◌, ◌^◌, IfSome};
-ghost use Rattle.field.specs.Field.{Degree, order_of_two};
+ghost use Rattle.std.specs.Prelude.{◌≡◌, ◌-◌, ◌/◌, ◌^◌, ◌<◌, IfSome, IfNone};
+ghost use Rattle.field.specs.Field.{Degree, order_of_two, ω, field_power};
 ghost use Rattle.generator.specs.Coset.{CosetOf, CosetWalked, FromValue, Factored};
 
 use crate::round::RoundTables;
@@ -63,6 +63,18 @@ fn members(n: usize, r: usize) -> usize
     }
 }
 
+// The logarithm of an element. 0 has none.
+fn logarithm(tables: &RoundTables, element: u16) -> Option<usize>
+    requires { element < 2 ^ tables.now.s }
+    ensures power { IfSome result (λ k. (k < 2 ^ tables.now.s - 1) × (field_power tables.now.s ω k ≡ element)) }
+    ensures zero { IfNone result (element ≡ 0) }
+{
+    if element == 0 {
+        return None;
+    }
+    Some(tables.logs[element as usize] as usize)
+}
+
 // By sums of logarithms. One of the elements may be 0, which has no logarithm: then the value is 0 too.
 fn factor_by_logarithms(n: usize, r: usize, exponent: usize, tables: &RoundTables) -> Factor
     requires { CosetOf n tables.now.s r × (exponent ≡ (2 ^ tables.now.s - 1) / n) }
@@ -74,10 +86,10 @@ fn factor_by_logarithms(n: usize, r: usize, exponent: usize, tables: &RoundTable
     let mut x = r;
     'walk: loop {
         let element = tables.powers[x * exponent] ^ 2;
-        if element == 0 {
+        let Some(logarithm) = logarithm(tables, element) else {
             return from_value(tables.s, 0, members(n, r));
-        }
-        sum = step(end, sum, tables.logs[element as usize] as usize);
+        };
+        sum = step(end, sum, logarithm);
         degree += 1;
         x = twice(n, x);
         if x == r {

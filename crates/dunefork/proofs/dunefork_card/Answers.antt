@@ -1,9 +1,11 @@
 -- `dunefork::dunefork_card` meets its contract: the entry's answer as a code.
+-- What the reply says proves both. `grind` finds it too where a step stands between the reply and its code: a step is held by what it does to the value.
+use native.Mathlib.Omega.{arith}
 use Rattle.dunefork.proofs.Coded.{value_few, coded, card_few}
 use Rattle.dunefork.proofs.dunefork_card.Goals as goal
 
 pub reply_code-requires : goal.reply_code-requires
-reply_code-requires c = value_few c.card.ensures (card_few _ _)
+reply_code-requires c = let few = value_few c.card.ensures (card_few _ _) in grind arith
 
 pub returns : goal.returns
-returns c = coded c.reply_code.type_inv c.reply_code.ensures c.card.ensures
+returns c = coded c.reply_code.type_inv c.reply_code.ensures (grind arith)

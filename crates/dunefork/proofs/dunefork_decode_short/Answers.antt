@@ -1,4 +1,5 @@
 -- `dunefork::dunefork_decode_short` meets its contract: the entry's answer as a code.
+-- What the reply says proves both. `grind` finds it too where a step stands between the reply and its code: a step is held by what it does to the value.
 use native.Mathlib.Omega.{arith}
 use Rattle.document.specs.Short.{short}
 use Rattle.document.proofs.Stated.{length_is}
@@ -6,7 +7,8 @@ use Rattle.dunefork.proofs.Coded.{value_few, coded, decode_short_few}
 use Rattle.dunefork.proofs.dunefork_decode_short.Goals as goal
 
 pub reply_code-requires : goal.reply_code-requires
-reply_code-requires c = value_few c.decode_short.ensures (decode_short_few c.args.sheet.now c.args.m _ _ (omega (arith, c.type_inv.sheet 2, length_is short c.args.sheet.now)))
+reply_code-requires c =
+    let few = value_few c.decode_short.ensures (decode_short_few c.args.sheet.now c.args.m _ _ (omega (arith, c.type_inv.sheet 2, length_is short c.args.sheet.now))) in grind arith
 
 pub returns : goal.returns
-returns c = coded c.reply_code.type_inv c.reply_code.ensures c.decode_short.ensures
+returns c = coded c.reply_code.type_inv c.reply_code.ensures (grind arith)

@@ -8,4 +8,4 @@ use Rattle.decoder.proofs.Showing.{ones_found}
 use Rattle.decoder.proofs.trials.show_ones.Goals as goal
 
 pub returns : goal.returns
-returns c = ones_found c.args.word.now c.args.marks.now c.args.decoded.now c.args.zeros.now c.args.ones.now c.args.d (length c.args.decoded.now - length c.args.word.now) (omega (arith, c.requires.0.decoded_long)) c.measure.ensures (ap measured_as c.in-Some.is) c.copy_from_slice.ensures.after c.copy_from_slice-2.ensures.after
+returns c = ones_found c.args.word.now c.args.marks.now c.args.decoded.now c.args.zeros.now c.args.ones.now c.args.d (length c.args.decoded.now - length c.args.word.now) (omega (arith, c.requires.0.decoded_long)) c.measure.ensures (ap measured_as c.in-Some.is) c.copy.ensures c.copy-2.ensures

@@ -128,16 +128,16 @@ extern "C" {
 #define DUNEFORK_READ_STACK 1604
 #define DUNEFORK_DECODE_STACK 79872
 #define DUNEFORK_DECODE_STACK_SMALL 33792 /* on a sheet whose s, the third number of its listing, is at most 8 */
-#define DUNEFORK_DECODE_STACK_SHORT 6928 /* on such a sheet whose certificate at work has fewer than 64 terms (L) */
-#define DUNEFORK_DECODE_STACK_LEAST 4624 /* on such a sheet whose s is at most 6 */
-#define DUNEFORK_DECODE_MARKED_STACK 79968
-#define DUNEFORK_DECODE_MARKED_STACK_SMALL 33888 /* on the same sheets as decode's: s at most 8, */
-#define DUNEFORK_DECODE_MARKED_STACK_SHORT 7024 /* and fewer than 64 terms, */
-#define DUNEFORK_DECODE_MARKED_STACK_LEAST 4720 /* and s at most 6 */
+#define DUNEFORK_DECODE_STACK_SHORT 6912 /* on such a sheet whose certificate at work has fewer than 64 terms (L) */
+#define DUNEFORK_DECODE_STACK_LEAST 4608 /* on such a sheet whose s is at most 6 */
+#define DUNEFORK_DECODE_MARKED_STACK 79936
+#define DUNEFORK_DECODE_MARKED_STACK_SMALL 33856 /* on the same sheets as decode's: s at most 8, */
+#define DUNEFORK_DECODE_MARKED_STACK_SHORT 6976 /* and fewer than 64 terms, */
+#define DUNEFORK_DECODE_MARKED_STACK_LEAST 4672 /* and s at most 6 */
 #define DUNEFORK_DECODE_BLOCK_STACK 80416
 #define DUNEFORK_DECODE_BLOCK_STACK_SMALL 34336 /* likewise: s at most 8, */
-#define DUNEFORK_DECODE_BLOCK_STACK_SHORT 7472 /* and fewer than 64 terms, */
-#define DUNEFORK_DECODE_BLOCK_STACK_LEAST 5168 /* and s at most 6 */
+#define DUNEFORK_DECODE_BLOCK_STACK_SHORT 7456 /* and fewer than 64 terms, */
+#define DUNEFORK_DECODE_BLOCK_STACK_LEAST 5152 /* and s at most 6 */
 #define DUNEFORK_SHOWN_LENGTH_STACK 8
 #define DUNEFORK_CARD_STACK 1912
 
